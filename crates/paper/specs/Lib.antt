@@ -1,0 +1,14 @@
+pub mod Lists
+pub mod Formula
+pub mod Branch
+pub mod BoolForm
+pub mod Frozen
+pub mod Before
+pub mod Order
+pub mod Strategy
+pub mod Transition
+pub mod Meaning
+pub mod Carry
+pub mod Judgement
+pub mod Structure
+pub mod Statements

@@ -1,0 +1,127 @@
+-- What is proved of the definitions, as statements to be read without their proofs; proofs/Theorems.antt proves each.
+-- The numbers are those of docs/PROMISES.md. Most ask for a formula as a table gives it (`WellFormed`); the labels of a
+-- proposal A ascend in a table, and where that matters the statement says so.
+use Prim.Native.Nat.{ℕ, _<_, _≤_}
+use mathlib.Core.Bool.{Bool, true, false, not, _||_}
+use mathlib.Core.Path.{_≡_}
+use mathlib.Core.Logic.{_⊎_, _↔_}
+use mathlib.Core.List.{List, [], _∷_, List·Memᴰ}
+use lib.ListN.{length, getD}
+use Rattle.paper.specs.Lists.{anyOf, those}
+use Rattle.paper.specs.Formula.{Label, Variable, ℓ, has, Formula, labels, Rising, WellFormed}
+use Rattle.paper.specs.Branch.{branches}
+use Rattle.paper.specs.BoolForm.{MinimalModel, Part}
+use Rattle.paper.specs.Frozen.{frozen, Constrained}
+use Rattle.paper.specs.Before.{before, shareBranch}
+use Rattle.paper.specs.Order.{Acyclic, order, Chain, onCycle, OrderOf}
+use Rattle.paper.specs.Strategy.{Homogeneous, MinimalCovering, Strategy}
+use Rattle.paper.specs.Transition.{sliceBy, key, isLower, class, isKept, keys, transition, transitions}
+use Rattle.paper.specs.Meaning.{Meaning, True}
+use Rattle.paper.specs.Carry.{Carried, unset}
+use Rattle.paper.specs.Judgement.{Judgement, accepted, refused, missed, doubled, variables, judge}
+use Rattle.paper.specs.Structure.Cover.{coverOf}
+use Rattle.paper.specs.Structure.KeyCount.{numberOf}
+use Rattle.paper.specs.Structure.Kept.{keptAt}
+use Rattle.paper.specs.Structure.Share.{someHolds}
+
+-- 1. Branches as document 01 reads them are exactly the minimal models of boolForm, the paper's own definition.
+pub record BranchesAreMinimalModels (f : Formula) : Type 0 where
+  pub each : (b : List Label) → List·Memᴰ b (branches f) → MinimalModel f (has b)
+  pub all : (S : Label → Bool) → MinimalModel f S → (b : List Label) × List·Memᴰ b (branches f) × ((l : Label) → S l ≡ has b l)
+
+-- 2. Frozen sets are the least solution of Table 1's constraints.
+pub record FrozenIsLeast (f : Formula) : Type 0 where
+  pub solves : Constrained (frozen f) f
+  pub least : (F : Label → Variable → Bool) → Constrained F f → (l : Label) (v : Variable) → frozen f l v ≡ true → F l v ≡ true
+
+-- 3. Propositions 5 to 8 and Theorem 2 of document 001, under every meaning m and values xs of the bound variables around.
+module _ (m : Meaning) (xs : List ℕ) (f : Formula) where
+  abbrev pub Proposition5 : Type 0
+  Proposition5 = True m xs f → (b : List Label) × List·Memᴰ b (branches f) × True m xs (sliceBy (has b) f)
+
+  -- for any set of labels, not only a branch
+  abbrev pub Proposition6 : Type 0
+  Proposition6 = (S : Label → Bool) → True m xs (sliceBy S f) → True m xs f
+
+  abbrev pub Proposition7 : Type 0
+  Proposition7 = (S T : Label → Bool) → True m xs (sliceBy S f) → True m xs (sliceBy (λ l. S l || T l) f)
+
+  -- the union of a selection of branches
+  abbrev pub union : List (List Label) → Label → Bool
+  union bs l = anyOf (λ b. has b l) bs
+
+  -- the selection's branches may be any; where they are of one class of a minimal covering, so is the branch found
+  pub record Proposition8 : Type 0 where
+    pub some-branch : (bs : List (List Label)) → ((b : List Label) → List·Memᴰ b bs → List·Memᴰ b (branches f)) → True m xs (sliceBy (union bs) f)
+        → (b : List Label) × List·Memᴰ b (branches f) × True m xs (sliceBy (has b) f)
+    pub same-class : (#V : ℕ) → WellFormed #V f → (A : List Label) → Strategy #V f A → (c : List Label) → List·Memᴰ c (branches f)
+        → (bs : List (List Label)) → ((b : List Label) → List·Memᴰ b bs → List·Memᴰ b (class f A (key A c))) → True m xs (sliceBy (union bs) f)
+        → (b : List Label) × List·Memᴰ b (class f A (key A c)) × True m xs (sliceBy (has b) f)
+
+  -- a formula is true exactly if one of its listed transitions is; it holds for any A
+  abbrev pub Theorem2 : List Label → Type 0
+  Theorem2 A = True m xs f ↔ ((t : Formula) × List·Memᴰ t (transitions f A) × True m xs t)
+
+-- 4. The judgement accepts exactly the assignment strategies that cut the formula into at most 65,535 transitions.
+module _ (#V : ℕ) (f : Formula) (A : List Label) where
+  abbrev pub AcceptedExactly : Type 0
+  AcceptedExactly = (judge #V f A ≡ accepted #V (length (labels f)) (length A) (length (keys f A))) ↔ (Strategy #V f A × (length (keys f A) ≤ 65535))
+
+  -- there is no other acceptance
+  abbrev pub AcceptedOnlySo : Type 0
+  AcceptedOnlySo = (v n s t : ℕ) → judge #V f A ≡ accepted v n s t → judge #V f A ≡ accepted #V (length (labels f)) (length A) (length (keys f A))
+
+  -- refusal 13 is at a label on a cycle, and at no higher one than need be
+  pub record LowestOnCycle (place : ℕ) : Type 0 where
+    pub cycle : Chain (before f A) (ℓ place) (ℓ place)
+    pub lowest : (l : Label) → Chain (before f A) l l → place ≤ l .0
+
+  abbrev pub Refusal13 : Type 0
+  Refusal13 = Rising 0 A → (place : ℕ) → judge #V f A ≡ refused 13 place → LowestOnCycle place
+
+-- An order exists exactly if the greedy order places every label, exactly if there is no cycle, exactly if the test finds
+-- none. R is a relation between labels of A.
+pub record OrderExists (R : Label → Label → Bool) (A : List Label) : Type 0 where
+  pub placed : Acyclic R A ↔ ((l : Label) → has A l ≡ true → has (order R A) l ≡ true)
+  pub no-cycle : Acyclic R A ↔ ((l : Label) → Chain R l l → ⊥)
+  pub tested : (l : Label) → (onCycle R A l ≡ true) ↔ Chain R l l
+
+-- 5. Keys: strictly ascending, so each once; exactly the branches' keys; each of #V labels where the proposal is a covering.
+abbrev pub Ascending : List (List Label) → Type 0
+Ascending [] = Unit {0}
+Ascending (k ∷ ks) = ((j : List Label) → List·Memᴰ j ks → isLower k j ≡ true) × Ascending ks
+
+pub record KeysAreListed (f : Formula) (A : List Label) : Type 0 where
+  pub ascending : Ascending (keys f A)
+  pub from : (k : List Label) → List·Memᴰ k (keys f A) → (b : List Label) × List·Memᴰ b (branches f) × (k ≡ key A b)
+  pub onto : (b : List Label) → List·Memᴰ b (branches f) → List·Memᴰ (key A b) (keys f A)
+
+abbrev pub KeyLength : ℕ → Formula → List Label → Type 0
+KeyLength #V f A = (k : List Label) → List·Memᴰ k (keys f A) → length k ≡ #V
+
+-- 6. Demand 3, first half: the chosen labels of any branch are carried out by any order of A that respects "before",
+-- and the reported order is one.
+module _ (#V : ℕ) (f : Formula) (A : List Label) where
+  abbrev pub CarriedOut : Type 0
+  CarriedOut = (o : List Label) → OrderOf (before f A) A o → (b : List Label) → List·Memᴰ b (branches f) → Carried #V f unset (those (has b) o)
+
+  abbrev pub ReportedIsOrder : Type 0
+  ReportedIsOrder = OrderOf (before f A) A (order (before f A) A)
+
+-- 7. The forms over the structure are what the branches say.
+module _ (#V : ℕ) (f : Formula) (A : List Label) where
+  pub record CoverSays (v : Variable) : Type 0 where
+    pub missed : List·Memᴰ v (missed #V f A) ↔ (coverOf A v f .always ≡ false)
+    pub doubled : List·Memᴰ v (doubled #V f A) ↔ (coverOf A v f .twice ≡ true)
+
+  abbrev pub CountsSay : Type 0
+  CountsSay = (v : Variable) → v .0 < #V → CoverSays v
+
+  abbrev pub SharingSays : Type 0
+  SharingSays = (i j : Label) → shareBranch f i j ≡ someHolds f (i ∷ j ∷ [])
+
+  -- of a minimal covering
+  pub record NumbersSay : Type 0 where
+    pub count : length (keys f A) ≡ numberOf A f
+    pub kth-key : (k : ℕ) → k < length (keys f A) → getD (keys f A) k [] ≡ key A (keptAt A f k)
+    pub kth-kept : (k : ℕ) → k < length (keys f A) → (l : Label) → isKept f A (getD (keys f A) k []) l ≡ has (keptAt A f k) l

@@ -1,0 +1,43 @@
+-- Whether some branch holds given labels, worked out over the structure: they part among the children of a conjunction
+-- and meet in one child of any other join.
+use mathlib.Core.Bool.{Bool, true, false, _&&_, _||_}
+use mathlib.Core.List.{List, [], _∷_, _++_, map}
+use Rattle.paper.specs.Lists.{anyOf, allOf}
+use Rattle.paper.specs.Formula.{Label, has, Star, Formula, Formulas, FALSE, test, candidate, conjunction, disjunction, exists, IF, only, _⨾_}
+
+-- a way to part a list in two
+pub record Parts : Type 0 where
+  pub left : List Label
+  pub right : List Label
+
+abbrev pub toLeft : Label → Parts → Parts
+toLeft x p = record { left = x ∷ p .left; right = p .right }
+
+abbrev pub toRight : Label → Parts → Parts
+toRight x p = record { left = p .left; right = x ∷ p .right }
+
+abbrev pub parts : List Label → List Parts
+parts [] = record { left = []; right = [] } ∷ []
+parts (x ∷ S) = map (toLeft x) (parts S) ++ map (toRight x) (parts S)
+
+-- the branch b holds the labels of S
+abbrev pub holdsAll : List Label → List Label → Bool
+holdsAll b S = allOf (has b) S
+
+abbrev mutual
+  pub someHolds : Formula → List Label → Bool
+  someHolds (FALSE l) S = holdsAll (l ∷ []) S
+  someHolds (test s) S = holdsAll (s .label ∷ []) S
+  someHolds (candidate l v s) S = holdsAll (l ∷ []) S
+  someHolds (conjunction l fs) S = eachHolds fs S
+  someHolds (disjunction l fs) S = anyHolds fs S
+  someHolds (exists l s f) S = someHolds f S
+  someHolds (IF l s f g) S = someHolds f S || someHolds g S
+
+  pub eachHolds : Formulas → List Label → Bool
+  eachHolds (only f) S = someHolds f S
+  eachHolds (f ⨾ fs) S = anyOf (λ p. someHolds f (p .left) && eachHolds fs (p .right)) (parts S)
+
+  pub anyHolds : Formulas → List Label → Bool
+  anyHolds (only f) S = someHolds f S
+  anyHolds (f ⨾ fs) S = someHolds f S || anyHolds fs S

@@ -1,0 +1,8 @@
+// Document 001 without code: its definitions stand in specs/, its theorems in proofs/.
+// The two sorts of small numbers live here, so that code and definitions share them.
+
+// A row's label: its position among the rows of the table (document 001: a label of the set L).
+pub struct Label(pub u16);
+
+// A variable: its position among the variables of the table (document 001: a primed variable).
+pub struct Variable(pub u16);
