@@ -2,3 +2,15 @@ pub mod Bools
 pub mod Lists
 pub mod Labels
 pub mod Distinct
+pub mod Variables
+pub mod Frozen
+pub mod BoolForm
+pub mod Truth
+pub mod Cycle
+pub mod Order
+pub mod Judgement
+pub mod Carry
+pub mod Readings
+pub mod Cover
+pub mod Share
+pub mod Cases

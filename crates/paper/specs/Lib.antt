@@ -12,3 +12,4 @@ pub mod Carry
 pub mod Judgement
 pub mod Structure
 pub mod Statements
+pub mod Cases
