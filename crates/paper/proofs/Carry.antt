@@ -4,9 +4,9 @@
 use Prim.Native.Nat.{ℕ, _<_}
 use mathlib.Core.Path.{_≡_, refl, sym, subst, ap, _∙_}
 use mathlib.Core.Bool.{Bool, true, false, cond, _&&_, _||_, or-comm, or-assoc, true≢false, false≢true}
-use mathlib.Core.List.{List, [], _∷_, List·Memᴰ, List·Memᴰ·head, List·Memᴰ·tail}
+use mathlib.Core.List.{List, [], _∷_, List·Memᴰ}
 use Rattle.paper.specs.Lists.{anyOf, those}
-use Rattle.paper.specs.Formula.{Label, Variable, same, alike, has, Formula, candidates, assigns}
+use Rattle.paper.specs.Formula.{Label, Variable, same, alike, has, Formula, candidates, assigns, WellFormed}
 use Rattle.paper.specs.Branch.{branches}
 use Rattle.paper.specs.BoolForm.{Part}
 use Rattle.paper.specs.Frozen.{frozen}
@@ -17,14 +17,9 @@ use Rattle.paper.specs.Transition.{key}
 use Rattle.paper.specs.Carry.{Carried, unset}
 use Rattle.paper.specs.Statements.{CarriedOut}
 use Rattle.paper.proofs.Bools.{or-left, or-right, or-cases, both, and-left, and-right, not-so, same-answer, pick}
-use Rattle.paper.proofs.Lists.{to-any, of-any, howMany-some, howMany-one}
-use Rattle.paper.proofs.Labels.{same-eq, alike-eq, has-mem, mem-has, has-head}
-use Rattle.paper.proofs.Order.{has-those, those-has}
-
--- all pass
-those-all : {A : Type 0} (p : A → Bool) (xs : List A) → ((a : A) → List·Memᴰ a xs → p a ≡ true) → those p xs ≡ xs
-those-all p [] h = refl
-those-all p (x ∷ xs) h = rw (h x (List·Memᴰ·head refl), those-all p xs (λ a t. h a (List·Memᴰ·tail t)))
+use Rattle.paper.proofs.Lists.{to-any, of-any, those-all, howMany-some, howMany-one}
+use Rattle.paper.proofs.Frozen.{frozen-range, assigned-range}
+use Rattle.paper.proofs.Labels.{same-eq, alike-eq, has-mem, mem-has, has-head, has-those, those-has}
 
 -- i before j, for two labels of K on one branch
 comes-before : (f : Formula) (K b : List Label) (i j : Label) (v : Variable) → List·Memᴰ b (branches f)
@@ -82,9 +77,8 @@ set-by : {f : Formula} {K b done rest : List Label} {set : Variable → Bool} �
     → (v : Variable) (i : Label) → has done i ≡ true → has b i ≡ true → assigns f v i ≡ true → set v ≡ true
 set-by {f} {b = b} {done = done} s v i d h k = s .set-is v ∙ to-any (λ i. has b i && assigns f v i) (has-mem done i d) (both (has b i) _ h k)
 
--- a formula whose variables are all below #V, with a minimal covering
-module _ (#V : ℕ) (f : Formula) (A : List Label) (assigned-range : (v : Variable) (l : Label) → assigns f v l ≡ true → v .0 < #V)
-    (frozen-range : (v : Variable) (l : Label) → frozen f l v ≡ true → v .0 < #V) (cover : MinimalCovering #V f A) where
+-- a well-formed formula with a minimal covering
+module _ (#V : ℕ) (f : Formula) (A : List Label) (wf : WellFormed #V f) (cover : MinimalCovering #V f A) where
   -- K holds the chosen labels of the branch b, and only chosen labels: it is A, for the one order of the formula, or the
   -- key of b, for the order of its own transition
   module _ (b : List Label) (t : List·Memᴰ b (branches f)) (K : List Label) (within : Part (has K) (has A))
@@ -108,7 +102,7 @@ module _ (#V : ℕ) (f : Formula) (A : List Label) (assigned-range : (v : Variab
 
             reads-set : (v : Variable) → frozen f j v ≡ true → set v ≡ true
             reads-set v h =
-                let (i, bi, ai, si) = chosen #V f A b t cover v (frozen-range v j h) in
+                let (i, bi, ai, si) = chosen #V f A b t cover v (frozen-range wf j v h) in
                 set-by s v i (s .respects .0 i (comes-before f K b i j v t (enough i bi ai) kj bi e si h)) bi si
 
             sets-once : (v : Variable) → assigns f v j ≡ true → set v ≡ false
@@ -117,7 +111,7 @@ module _ (#V : ℕ) (f : Formula) (A : List Label) (assigned-range : (v : Variab
                 let bi = and-left (has b i) _ q in
                 let si = and-right (has b i) _ q in
                 let ai = within i (s .parts i ∙ or-left (has done i) _ (mem-has d)) in
-                let z = only-chosen #V f A b t cover v (assigned-range v j k) i j bi ai si e (within j kj) k in
+                let z = only-chosen #V f A b t cover v (assigned-range wf v j k) i j bi ai si e (within j kj) k in
                 s .fresh j (has-head j js) (subst (λ l. has done l ≡ true) z (mem-has d))
         turn false e more = more set (stands-next f K b done j js set set s (λ v. rw e (s .set-is v)))
 

@@ -3,23 +3,18 @@
 use Prim.Native.Nat.{ℕ, suc}
 use mathlib.Core.Path.{_≡_, refl}
 use mathlib.Core.Bool.{Bool, true, _&&_}
-use mathlib.Core.List.{List, [], _∷_, map, List·Memᴰ, List·Memᴰ·head, List·Memᴰ·tail}
+use mathlib.Core.List.{List, [], _∷_, map, List·Memᴰ}
 use lib.Dec.{leb, ltb}
 use borrow.Author.Tests.{leb-true, ltb-true}
 use Rattle.paper.specs.Lists.{allOf}
 use Rattle.paper.specs.Formula.{Label, Variable, alike, Formula, labels, candidates, stars, Rising, WellFormed}
 use Rattle.paper.specs.Cases.{Case, answer, proposal, P, starred}
 use Rattle.paper.proofs.Bools.{and-left, and-right}
-use Rattle.paper.proofs.Lists.{of-any}
+use Rattle.paper.proofs.Lists.{of-any, of-all}
 use Rattle.paper.proofs.Labels.{alike-eq}
 
 pub starred-cases : map answer starred ≡ map (λ c. c .expected) starred
 starred-cases = refl
-
--- each member passes
-of-all : {A : Type 0} (p : A → Bool) {a : A} {xs : List A} → allOf p xs ≡ true → List·Memᴰ a xs → p a ≡ true
-of-all p h (List·Memᴰ·head {x = x} e) = rw e (and-left (p x) _ h)
-of-all p h (List·Memᴰ·tail {x = x} t) = of-all p (and-right (p x) _ h) t
 
 -- the tests
 abbrev rises : ℕ → List Label → Bool

@@ -19,10 +19,10 @@ use Rattle.paper.specs.Judgement.{Judgement, accepted, refused, refuse, 
 use Rattle.paper.specs.Statements.{AcceptedExactly, AcceptedOnlySo, Refusal13, OrderExists}
 use Rattle.paper.proofs.Bools.{not-so}
 use Rattle.paper.proofs.Lists.{to-any, of-any, to-none, of-none, sub-those}
-use Rattle.paper.proofs.Labels.{has-head, has-mem, mem-has, rising-sub, rising-above}
+use Rattle.paper.proofs.Labels.{has-head, has-mem, mem-has, has-those, those-has, rising-sub, rising-above}
 use Rattle.paper.proofs.Variables.{in-variables, to-variables}
 use Rattle.paper.proofs.Cycle.{chain-starts}
-use Rattle.paper.proofs.Order.{has-those, those-has, order-exists, before-between}
+use Rattle.paper.proofs.Order.{order-exists, before-between}
 
 -- one check, of the offenders xs with the number k
 module _ {A : Type 0} (place : A → ℕ) (k : ℕ) where

@@ -8,11 +8,11 @@ use mathlib.Core.Bool.{Bool, true, false, _&&_, _||_, true≢false, false≢true
 use mathlib.Core.Logic.{_⊎_, inl, inr}
 use mathlib.Core.List.{List, [], _∷_, _++_, map, append-nil, map-append, List·Memᴰ, List·Memᴰ·head, List·Memᴰ·cases-cons, List·Memᴰ·not-nil, List·Memᴰ·append-cases, List·Memᴰ·eq-of-singleton, Memᴰ·map, Sublistᴰ, Sublistᴰ·slnil, Sublistᴰ·cons, Sublistᴰ·cons-cons, Sublistᴰ·append, Sublistᴰ·nil-sublist}
 use borrow.Author.Tests.{eq-eqb, eqb-true}
-use Rattle.paper.specs.Lists.{anyOf, pairs}
+use Rattle.paper.specs.Lists.{anyOf, those, pairs}
 use Rattle.paper.specs.Formula.{Label, Variable, Candidate, same, alike, has, labels, labelsOf, candidates, candidatesOf, Rising, Formula, Formulas, FALSE, test, candidate, conjunction, disjunction, exists, IF, only, _⨾_}
 use Rattle.paper.specs.Branch.{branches, ofEach, ofAny}
 use Rattle.paper.proofs.Bools.{or-left, or-right, or-cases, pick}
-use Rattle.paper.proofs.Lists.{to-any, of-any, any-append, of-pairs}
+use Rattle.paper.proofs.Lists.{to-any, of-any, any-append, to-those, of-those, of-pairs}
 
 pub same-refl : (i : Label) → same i i ≡ true
 same-refl i = eq-eqb (i .0) (i .0) refl
@@ -48,6 +48,13 @@ has-cases b c l h = or-cases (has b l) (has c l) (sym (any-append (same l) b c) 
 -- a label of a list of one
 pub has-one : (l i : Label) → has (l ∷ []) i ≡ true → i ≡ l
 has-one l i h = pick (or-cases (same i l) false h) (same-eq i l) (λ e. absurd (false≢true e))
+
+-- the labels that pass a test
+pub has-those : (p : Label → Bool) (xs : List Label) (l : Label) → has xs l ≡ true → p l ≡ true → has (those p xs) l ≡ true
+has-those p xs l h k = mem-has (to-those p (has-mem xs l h) k)
+
+pub those-has : (p : Label → Bool) (xs : List Label) (l : Label) → has (those p xs) l ≡ true → (has xs l ≡ true) × (p l ≡ true)
+those-has p xs l h = let (t, k) = of-those p xs (has-mem (those p xs) l h) in (mem-has t, k)
 
 -- labels that rise
 pub rising-weaken : {p q : ℕ} (xs : List Label) → p ≤ q → Rising q xs → Rising p xs

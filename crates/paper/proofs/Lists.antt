@@ -7,7 +7,7 @@ use mathlib.Core.Logic.{_⊎_, inl, inr}
 use mathlib.Core.List.{List, [], _∷_, _++_, map, append-nil, append-assoc, List·Memᴰ, List·Memᴰ·head, List·Memᴰ·tail, List·Memᴰ·cases-cons, List·Memᴰ·not-nil, List·Memᴰ·append-cases, Memᴰ·append-left, Memᴰ·append-right, Memᴰ·map, Memᴰ·of-map, map-append, Sublistᴰ, Sublistᴰ·slnil, Sublistᴰ·cons, Sublistᴰ·cons-cons}
 use lib.ListN.{length}
 use Rattle.paper.specs.Lists.{anyOf, allOf, those, howMany, pairs}
-use Rattle.paper.proofs.Bools.{or-left, or-right, or-cases, not-so, pick}
+use Rattle.paper.proofs.Bools.{or-left, or-right, or-cases, and-left, and-right, not-so, pick}
 
 module _ {A : Type 0} (p : A → Bool) where
   -- some member passes
@@ -58,6 +58,15 @@ module _ {A : Type 0} (p : A → Bool) where
 
   pub of-none : (xs : List A) → those p xs ≡ [] → (a : A) → List·Memᴰ a xs → p a ≡ false
   of-none xs e a t = not-so (p a) λ h. List·Memᴰ·not-nil (subst (List·Memᴰ a) e (to-those t h))
+
+  -- all pass
+  pub those-all : (xs : List A) → ((a : A) → List·Memᴰ a xs → p a ≡ true) → those p xs ≡ xs
+  those-all [] h = refl
+  those-all (x ∷ xs) h = rw (h x (List·Memᴰ·head refl), those-all xs (λ a t. h a (List·Memᴰ·tail t)))
+
+  pub of-all : {a : A} {xs : List A} → allOf p xs ≡ true → List·Memᴰ a xs → p a ≡ true
+  of-all h (List·Memᴰ·head {x = x} e) = rw e (and-left (p x) _ h)
+  of-all h (List·Memᴰ·tail {x = x} t) = of-all (and-right (p x) _ h) t
 
   pub those-append : (xs ys : List A) → those p (xs ++ ys) ≡ those p xs ++ those p ys
   those-append [] ys = refl

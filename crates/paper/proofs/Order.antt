@@ -16,16 +16,9 @@ use Rattle.paper.specs.Before.{before}
 use Rattle.paper.specs.Order.{Acyclic, isReady, greedy, order, Chain, leads, Respects, Once, OrderOf}
 use Rattle.paper.specs.Statements.{OrderExists, ReportedIsOrder}
 use Rattle.paper.proofs.Bools.{or-left, or-right, or-cases, and-left, and-right, not-so, pick}
-use Rattle.paper.proofs.Lists.{to-any, of-any, to-those, of-those, of-none, those-lt}
-use Rattle.paper.proofs.Labels.{same-refl, same-eq, has-head, has-mem, mem-has}
+use Rattle.paper.proofs.Lists.{to-any, of-any, of-none, those-lt}
+use Rattle.paper.proofs.Labels.{same-refl, same-eq, has-head, has-mem, mem-has, has-those, those-has}
 use Rattle.paper.proofs.Cycle.{leads-chain, leads-step, leads-trans, on-cycle, acyclic-no-cycle}
-
--- the labels that pass a test
-pub has-those : (p : Label → Bool) (xs : List Label) (l : Label) → has xs l ≡ true → p l ≡ true → has (those p xs) l ≡ true
-has-those p xs l h k = mem-has (to-those p (has-mem xs l h) k)
-
-pub those-has : (p : Label → Bool) (xs : List Label) (l : Label) → has (those p xs) l ≡ true → (has xs l ≡ true) × (p l ≡ true)
-those-has p xs l h = let (t, k) = of-those p xs (has-mem (those p xs) l h) in (mem-has t, k)
 
 -- The greedy order. What is left when j is placed:
 abbrev without : Label → List Label → List Label
