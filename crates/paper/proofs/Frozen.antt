@@ -53,7 +53,7 @@ mutual
   site-labels g (candidate l v s) = refl
   site-labels g (conjunction l fs) = ap (λ ls. l ∷ ls) (site-labels-of g fs)
   site-labels g (disjunction l fs) = ap (λ ls. l ∷ ls) (site-labels-of g fs)
-  site-labels g (exists l s f) = ap (λ ls. l ∷ s .label ∷ ls) (site-labels (within g s) f)
+  site-labels g (exists l s f) = ap (λ ls. l ∷ s .label ∷ ls) (site-labels _ f)
   site-labels g (IF l s f h) =
       rw (map-append labelOf (sitesUnder (within g s) f) (sitesUnder (within g s) h), site-labels (within g s) f, site-labels (within g s) h)
 
