@@ -29,6 +29,9 @@ refusedWith number place = record { judgement = refused number place; order = []
 abbrev pub numbers : List Label → List ℕ
 numbers = map (λ l. l .0)
 
+abbrev pub numbered : List ℕ → List Label
+numbered = map ℓ
+
 abbrev pub answerAfter : Judgement → Formula → List Label → Answer
 answerAfter (accepted v n s t) f A = record {
   judgement = accepted v n s t;
@@ -40,7 +43,7 @@ answerAfter (refused number place) f A = refusedWith number place
 
 -- the proposal of a case, and what the definitions answer
 abbrev pub proposal : Case → List Label
-proposal c = map ℓ (c .strategy)
+proposal c = numbered (c .strategy)
 
 abbrev pub answer : Case → Answer
 answer c = answerAfter (judge (c .variables) (c .formula) (proposal c)) (c .formula) (proposal c)

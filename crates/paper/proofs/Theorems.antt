@@ -1,0 +1,93 @@
+-- The theorems of document 001, each statement of specs/Statements.antt under the premises that it needs. The proofs stand in
+-- the files named here; `WellFormed #V f` is what a table's rows give (labels ascend in preorder, variables lie below #V).
+use Prim.Native.Nat.{ℕ}
+use mathlib.Core.Bool.{Bool, true}
+use mathlib.Core.Path.{_≡_, refl}
+use mathlib.Core.List.{List, [], _∷_}
+use Rattle.paper.specs.Formula.{Label, has, Formula, WellFormed}
+use Rattle.paper.specs.Before.{before}
+use Rattle.paper.specs.Order.{Acyclic}
+use Rattle.paper.specs.Strategy.{Homogeneous, MinimalCovering, Strategy}
+use Rattle.paper.specs.Meaning.{Meaning}
+use Rattle.paper.specs.Cases.{P, numbered}
+use Rattle.paper.specs.Statements.{BranchesAreMinimalModels, FrozenIsLeast, Proposition5, Proposition6, Proposition7, Proposition8, Theorem2, AcceptedExactly, AcceptedOnlySo, Refusal13, OrderExists, KeysAreListed, KeyLength, CarriedOut, ReportedIsOrder, CountsSay, SharingSays, NumbersSay}
+use Rattle.paper.proofs.BoolForm.{branches-are-minimal-models}
+use Rattle.paper.proofs.Frozen.{frozen-is-least}
+use Rattle.paper.proofs.Truth as Truth
+use Rattle.paper.proofs.Judgement as Judgement
+use Rattle.paper.proofs.Order as Order
+use Rattle.paper.proofs.Distinct.{keys-are-listed}
+use Rattle.paper.proofs.Keys as Keys
+use Rattle.paper.proofs.Carry as Carry
+use Rattle.paper.proofs.Cover as Cover
+use Rattle.paper.proofs.Share as Share
+use Rattle.paper.proofs.Numbers as Numbers
+
+module _ (#V : ℕ) (f : Formula) (wf : WellFormed #V f) where
+  -- 1
+  pub branches-are-models : BranchesAreMinimalModels f
+  branches-are-models = branches-are-minimal-models f (wf .rising)
+
+  -- 2
+  pub frozen-sets-are-least : FrozenIsLeast f
+  frozen-sets-are-least = frozen-is-least f (wf .rising)
+
+-- 3
+module _ (m : Meaning) (xs : List ℕ) (f : Formula) where
+  pub proposition5 : Proposition5 m xs f
+  proposition5 = Truth.proposition5 m xs f
+
+  pub proposition6 : Proposition6 m xs f
+  proposition6 = Truth.proposition6 m xs f
+
+  pub proposition7 : Proposition7 m xs f
+  proposition7 = Truth.proposition7 m xs f
+
+  pub proposition8 : Proposition8 m xs f
+  proposition8 = record { some-branch = Truth.some-branch m xs f; same-class = Keys.same-class m xs f (λ S. Truth.inside m S xs f) }
+
+  pub theorem2 : (A : List Label) → Theorem2 m xs f A
+  theorem2 = Truth.theorem2 m xs f
+
+-- 4
+module _ (#V : ℕ) (f : Formula) (A : List Label) where
+  pub accepted-exactly : AcceptedExactly #V f A
+  accepted-exactly = Judgement.accepted-exactly #V f A
+
+  pub accepted-only-so : AcceptedOnlySo #V f A
+  accepted-only-so = Judgement.accepted-only-so #V f A
+
+  pub refusal-13 : Refusal13 #V f A
+  refusal-13 = Judgement.refusal-13 #V f A
+
+  pub order-exists : OrderExists (before f A) A
+  order-exists = Order.order-exists (before f A) A (Order.before-between f A)
+
+-- 5
+pub keys-listed : (f : Formula) (A : List Label) → KeysAreListed f A
+keys-listed = keys-are-listed
+
+module _ (#V : ℕ) (f : Formula) (A : List Label) (wf : WellFormed #V f) where
+  pub key-length : Homogeneous f A → MinimalCovering #V f A → KeyLength #V f A
+  key-length = Keys.keys-have-length #V f A wf
+
+  -- 6
+  pub carried-out : MinimalCovering #V f A → CarriedOut #V f A
+  carried-out = Carry.carried-out #V f A wf
+
+  pub reported-is-order : Acyclic (before f A) A → ReportedIsOrder #V f A
+  reported-is-order = Order.reported-is-order #V f A
+
+  -- 7
+  pub counts-say : CountsSay #V f A
+  counts-say = Cover.counts-say #V f A wf
+
+  pub sharing-says : SharingSays #V f A
+  sharing-says = Share.sharing-says #V f A
+
+  pub numbers-say : Homogeneous f A → MinimalCovering #V f A → NumbersSay #V f A
+  numbers-say = Numbers.numbers-say #V f A wf
+
+-- a strategy: the listing's (the premises above can be met)
+pub listing-strategy : Strategy 2 P (numbered (1 ∷ 4 ∷ 6 ∷ []))
+listing-strategy = Judgement.accepted-exactly 2 P (numbered (1 ∷ 4 ∷ 6 ∷ [])) .0 refl .0
