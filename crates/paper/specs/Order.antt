@@ -18,15 +18,30 @@ pub record Acyclic (R : Label → Label → Bool) (A : List Label) : Type 0 wher
   pub total : (i j : Label) → has A i ≡ true → has A j ≡ true → ((i ≺ j) ≡ true) ⊎ ((i ≡ j) ⊎ ((j ≺ i) ≡ true))
   pub respects : (i j : Label) → R i j ≡ true → (i ≺ j) ≡ true
 
-module _ (R : Label → Label → Bool) where
-  -- no label left comes before j
-  abbrev pub isReady : List Label → Label → Bool
+-- The order and the test for cycles serve any things that can be told apart: labels here, their numbers in code.
+module _ {X : Type 0} (R : X → X → Bool) where
+  -- nothing left comes before j
+  abbrev pub isReady : List X → X → Bool
   isReady left j = not (anyOf (λ i. R i j) left)
 
-  -- at each step the lowest label left that is ready; at most so many steps
+  -- at each step the first one left that is ready; at most so many steps
+  abbrev pub greedyBy : (X → X → Bool) → ℕ → List X → List X
+  greedyBy alike zero left = []
+  greedyBy alike (suc n) left = elim (those (isReady left) left) [ [] ↦ [] | j ∷ js ↦ j ∷ greedyBy alike n (those (λ i. not (alike i j)) left) ]
+
+  -- a chain leads from i to j, with nothing between them but members of ks
+  abbrev pub leads : List X → X → X → Bool
+  leads [] i j = R i j
+  leads (k ∷ ks) i j = leads ks i j || leads ks i k && leads ks k j
+
+  -- i is on a cycle of R, a relation between members of A
+  abbrev pub onCycle : List X → X → Bool
+  onCycle A i = leads A i i
+
+module _ (R : Label → Label → Bool) where
+  -- at each step the lowest label left that is ready, where the labels left ascend
   abbrev pub greedy : ℕ → List Label → List Label
-  greedy zero left = []
-  greedy (suc n) left = elim (those (isReady left) left) [ [] ↦ [] | j ∷ js ↦ j ∷ greedy n (those (λ i. not (same i j)) left) ]
+  greedy = greedyBy R same
 
   -- the reported order of A, whose labels ascend
   abbrev pub order : List Label → List Label
@@ -36,15 +51,6 @@ module _ (R : Label → Label → Bool) where
   pub data Chain : Label → Label → Type 0 where
     link : {i j : Label} → R i j ≡ true → Chain i j
     _then_ : {i j k : Label} → R i j ≡ true → Chain j k → Chain i k
-
-  -- a chain leads from i to j, with no labels between them but those of ks
-  abbrev pub leads : List Label → Label → Label → Bool
-  leads [] i j = R i j
-  leads (k ∷ ks) i j = leads ks i j || leads ks i k && leads ks k j
-
-  -- l is on a cycle of R, a relation between labels of A
-  abbrev pub onCycle : List Label → Label → Bool
-  onCycle A l = leads A l l
 
 -- The labels of a list come in an order that respects R: whatever comes before one of them is done when its turn comes.
 abbrev pub Respects : (Label → Label → Bool) → List Label → List Label → Type 0
