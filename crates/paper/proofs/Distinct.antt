@@ -41,7 +41,8 @@ withKey-keeps : (k : List Label) {i : List Label} (ks : List (List Label)) → L
 withKey-keeps k [] t = absurd (List·Memᴰ·not-nil t)
 withKey-keeps k {i} (j ∷ js) t = go (sameKey k j) (isLower k j) (withKey-keeps k js) (List·Memᴰ·cases-cons t)
   where
-    go : (e u : Bool) → (List·Memᴰ i js → List·Memᴰ i (withKey k js)) → (i ≡ j) ⊎ List·Memᴰ i js → List·Memᴰ i (cond e (j ∷ js) (cond u (k ∷ j ∷ js) (j ∷ withKey k js)))
+    go : (e u : Bool) → (List·Memᴰ i js → List·Memᴰ i (withKey k js)) → (i ≡ j) ⊎ List·Memᴰ i js
+        → List·Memᴰ i (cond e (j ∷ js) (cond u (k ∷ j ∷ js) (j ∷ withKey k js)))
     go true u r c = t
     go false true r c = List·Memᴰ·tail t
     go false false r (inl e) = List·Memᴰ·head e
@@ -59,7 +60,8 @@ pub of-withKey : {i : List Label} (k : List Label) (ks : List (List Label)) → 
 of-withKey k [] t = inl (List·Memᴰ·eq-of-singleton t)
 of-withKey {i} k (j ∷ js) t = go (sameKey k j) (isLower k j) t (of-withKey k js)
   where
-    go : (e u : Bool) → List·Memᴰ i (cond e (j ∷ js) (cond u (k ∷ j ∷ js) (j ∷ withKey k js))) → (List·Memᴰ i (withKey k js) → (i ≡ k) ⊎ List·Memᴰ i js) → (i ≡ k) ⊎ List·Memᴰ i (j ∷ js)
+    go : (e u : Bool) → List·Memᴰ i (cond e (j ∷ js) (cond u (k ∷ j ∷ js) (j ∷ withKey k js)))
+        → (List·Memᴰ i (withKey k js) → (i ≡ k) ⊎ List·Memᴰ i js) → (i ≡ k) ⊎ List·Memᴰ i (j ∷ js)
     go true u s r = inr s
     go false true s r = List·Memᴰ·cases-cons s
     go false false s r = deeper (List·Memᴰ·cases-cons s)
@@ -125,7 +127,8 @@ isLower-total (x ∷ j) (y ∷ k) = go (ltb (x .0) (y .0)) refl (ltb (y .0) (x .
         number : x .0 ≡ y .0
         number = let a = ltb-false (x .0) (y .0) p in let b = ltb-false (y .0) (x .0) q in omega arith
 
-        tails : (isLower j k ≡ true) ⊎ ((j ≡ k) ⊎ (isLower k j ≡ true)) → ((same x y && isLower j k) ≡ true) ⊎ ((x ∷ j ≡ y ∷ k) ⊎ ((same y x && isLower k j) ≡ true))
+        tails : (isLower j k ≡ true) ⊎ ((j ≡ k) ⊎ (isLower k j ≡ true))
+            → ((same x y && isLower j k) ≡ true) ⊎ ((x ∷ j ≡ y ∷ k) ⊎ ((same y x && isLower k j) ≡ true))
         tails (inl h) = inl (both (same x y) _ (eq-eqb (x .0) (y .0) number) h)
         tails (inr (inl h)) = inr (inl (let e = same-eq x y (eq-eqb (x .0) (y .0) number) in cc))
         tails (inr (inr h)) = inr (inr (both (same y x) _ (eq-eqb (y .0) (x .0) (sym number)) h))
@@ -134,7 +137,8 @@ withKey-ascends : (k : List Label) (ks : List (List Label)) → Ascending ks →
 withKey-ascends k [] c = (λ j t. absurd (List·Memᴰ·not-nil t), tt)
 withKey-ascends k (j ∷ js) c = go (sameKey k j) refl (isLower k j) refl (withKey-ascends k js (c .1))
   where
-    go : (e : Bool) → sameKey k j ≡ e → (u : Bool) → isLower k j ≡ u → Ascending (withKey k js) → Ascending (cond e (j ∷ js) (cond u (k ∷ j ∷ js) (j ∷ withKey k js)))
+    go : (e : Bool) → sameKey k j ≡ e → (u : Bool) → isLower k j ≡ u → Ascending (withKey k js)
+        → Ascending (cond e (j ∷ js) (cond u (k ∷ j ∷ js) (j ∷ withKey k js)))
     go true p u q r = c
     go false p true q r = (λ i t. first i (List·Memᴰ·cases-cons t), c)
       where
@@ -157,7 +161,8 @@ distinct-ascends [] = tt
 distinct-ascends (k ∷ ks) = withKey-ascends k (distinct ks) (distinct-ascends ks)
 
 -- two ascending lists with the same members are equal
-pub ascending-ext : (xs ys : List (List Label)) → Ascending xs → Ascending ys → ((k : List Label) → List·Memᴰ k xs → List·Memᴰ k ys) → ((k : List Label) → List·Memᴰ k ys → List·Memᴰ k xs) → xs ≡ ys
+pub ascending-ext : (xs ys : List (List Label)) → Ascending xs → Ascending ys → ((k : List Label) → List·Memᴰ k xs → List·Memᴰ k ys)
+    → ((k : List Label) → List·Memᴰ k ys → List·Memᴰ k xs) → xs ≡ ys
 ascending-ext [] [] c d f g = refl
 ascending-ext [] (y ∷ ys) c d f g = absurd (List·Memᴰ·not-nil (g y (List·Memᴰ·head refl)))
 ascending-ext (x ∷ xs) [] c d f g = absurd (List·Memᴰ·not-nil (f x (List·Memᴰ·head refl)))
@@ -170,7 +175,8 @@ ascending-ext (x ∷ xs) (y ∷ ys) c d f g =
     heads (inr s) (inl e) = sym e
     heads (inr s) (inr t) = absurd (isLower-irreflexive x (isLower-transitive x y x (c .0 y t) (d .0 x s)))
 
-    tail : (us ws : List (List Label)) (a b : List Label) → a ≡ b → ((j : List Label) → List·Memᴰ j us → isLower a j ≡ true) → (k : List Label) → List·Memᴰ k us → List·Memᴰ k (b ∷ ws) → List·Memᴰ k ws
+    tail : (us ws : List (List Label)) (a b : List Label) → a ≡ b → ((j : List Label) → List·Memᴰ j us → isLower a j ≡ true) → (k : List Label)
+        → List·Memᴰ k us → List·Memᴰ k (b ∷ ws) → List·Memᴰ k ws
     tail us ws a b e h k t s = go (List·Memᴰ·cases-cons s)
       where
         go : (k ≡ b) ⊎ List·Memᴰ k ws → List·Memᴰ k ws

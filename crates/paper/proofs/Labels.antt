@@ -73,7 +73,8 @@ rising-above {p} (x ∷ xs) l r h =
     (λ t. let k = rising-above xs l (r .1) t in let j = r .0 in omega arith)
 
 -- labels that rise over two lists
-pub rising-split : (p : ℕ) (xs ys : List Label) → Rising p (xs ++ ys) → (q : ℕ) × (p ≤ q) × Rising p xs × Rising q ys × ((l : Label) → has xs l ≡ true → l .0 < q)
+pub rising-split : (p : ℕ) (xs ys : List Label) → Rising p (xs ++ ys)
+    → (q : ℕ) × (p ≤ q) × Rising p xs × Rising q ys × ((l : Label) → has xs l ≡ true → l .0 < q)
 rising-split p [] ys r = (p, (omega arith), tt, r, λ l h. absurd (false≢true h))
 rising-split p (x ∷ xs) ys r =
     let (q, le, rx, ry, below) = rising-split (suc (x .0)) xs ys (r .1) in
@@ -81,7 +82,8 @@ rising-split p (x ∷ xs) ys r =
     (q, (omega arith), (a, rx), ry, λ l h. pick (or-cases (same l x) (has xs l) h) (λ e. let z = eqb-true (l .0) (x .0) e in omega arith) (below l))
 
 -- two rising lists with the same members are equal
-pub rising-ext : (p q : ℕ) (xs ys : List Label) → Rising p xs → Rising q ys → ((l : Label) → has xs l ≡ true → has ys l ≡ true) → ((l : Label) → has ys l ≡ true → has xs l ≡ true) → xs ≡ ys
+pub rising-ext : (p q : ℕ) (xs ys : List Label) → Rising p xs → Rising q ys → ((l : Label) → has xs l ≡ true → has ys l ≡ true)
+    → ((l : Label) → has ys l ≡ true → has xs l ≡ true) → xs ≡ ys
 rising-ext p q [] [] r s f g = refl
 rising-ext p q [] (y ∷ ys) r s f g = absurd (false≢true (g y (has-head y ys)))
 rising-ext p q (x ∷ xs) [] r s f g = absurd (false≢true (f x (has-head x xs)))
@@ -94,7 +96,8 @@ rising-ext p q (x ∷ xs) (y ∷ ys) r s f g =
     heads : x ≡ y
     heads = ap (λ n. record { 0 = n }) (le-antisymm (at-least y x xs (r .1) (g y (has-head y ys))) (at-least x y ys (s .1) (f x (has-head x xs))))
 
-    tail : (us ws : List Label) (a b : Label) → a ≡ b → Rising (suc (a .0)) us → ((l : Label) → has (a ∷ us) l ≡ true → has (b ∷ ws) l ≡ true) → (l : Label) → has us l ≡ true → has ws l ≡ true
+    tail : (us ws : List Label) (a b : Label) → a ≡ b → Rising (suc (a .0)) us → ((l : Label) → has (a ∷ us) l ≡ true → has (b ∷ ws) l ≡ true)
+        → (l : Label) → has us l ≡ true → has ws l ≡ true
     tail us ws a b e u w l h =
         pick (or-cases (same l b) (has ws l) (w l (or-right (same l a) (has us l) h)))
         (λ q. let k = rising-above us l u h in let z = ap (λ (i : Label). i .0) (same-eq l b q ∙ sym e) in absurd (omega arith)) (λ t. t)
@@ -109,7 +112,8 @@ sub-has l (Sublistᴰ·cons-cons {a = a} {b = b} {l₁ = xs} {l₂ = ys} e s) h 
 one-label : {b : List Label} {l : Label} (ls : List Label) → List·Memᴰ b ((l ∷ []) ∷ []) → Sublistᴰ b (l ∷ ls)
 one-label {b} {l} ls t = subst (λ c. Sublistᴰ c (l ∷ ls)) (sym (List·Memᴰ·eq-of-singleton t)) (Sublistᴰ·cons-cons refl (Sublistᴰ·nil-sublist ls))
 
-of-either : (xs ys : List Label) (bs cs : List (List Label)) (b : List Label) → (List·Memᴰ b bs → Sublistᴰ b xs) → (List·Memᴰ b cs → Sublistᴰ b ys) → List·Memᴰ b (bs ++ cs) → Sublistᴰ b (xs ++ ys)
+of-either : (xs ys : List Label) (bs cs : List (List Label)) (b : List Label) → (List·Memᴰ b bs → Sublistᴰ b xs) → (List·Memᴰ b cs → Sublistᴰ b ys)
+    → List·Memᴰ b (bs ++ cs) → Sublistᴰ b (xs ++ ys)
 of-either xs ys bs cs b l r t =
     pick (List·Memᴰ·append-cases bs t) (λ s. subst (λ z. Sublistᴰ z (xs ++ ys)) (append-nil b) (Sublistᴰ·append (l s) (Sublistᴰ·nil-sublist ys))) (λ s. Sublistᴰ·append (Sublistᴰ·nil-sublist xs) (r s))
 
@@ -173,5 +177,6 @@ mutual
   candidates-sub (only f) = candidate-sub f
   candidates-sub (f ⨾ fs) = rw (map-append labelOf (candidates f) (candidatesOf fs)) (Sublistᴰ·append (candidate-sub f) (candidates-sub fs))
 
-pub known-candidate : (f : Formula) → Rising 0 (labels f) → (c d : Candidate) → List·Memᴰ c (candidates f) → List·Memᴰ d (candidates f) → c .label ≡ d .label → c ≡ d
+pub known-candidate : (f : Formula) → Rising 0 (labels f) → (c d : Candidate) → List·Memᴰ c (candidates f) → List·Memᴰ d (candidates f)
+    → c .label ≡ d .label → c ≡ d
 known-candidate f r = known labelOf 0 (candidates f) (rising-sub 0 (candidate-sub f) r)

@@ -43,7 +43,8 @@ module _ {A : Type 0} (p : A → Bool) where
   of-those [] t = absurd (List·Memᴰ·not-nil t)
   of-those {a} (x ∷ xs) t = go (p x) refl (of-those xs) t
     where
-      go : (b : Bool) → p x ≡ b → (List·Memᴰ a (those p xs) → List·Memᴰ a xs × (p a ≡ true)) → List·Memᴰ a (cond b (x ∷ those p xs) (those p xs)) → List·Memᴰ a (x ∷ xs) × (p a ≡ true)
+      go : (b : Bool) → p x ≡ b → (List·Memᴰ a (those p xs) → List·Memᴰ a xs × (p a ≡ true)) → List·Memᴰ a (cond b (x ∷ those p xs) (those p xs))
+          → List·Memᴰ a (x ∷ xs) × (p a ≡ true)
       go true e r s = pick (List·Memᴰ·cases-cons s) (λ q. (List·Memᴰ·head q, rw q e)) (λ q. (List·Memᴰ·tail (r q .0), r q .1))
       go false e r s = (List·Memᴰ·tail (r s .0), r s .1)
 
@@ -72,7 +73,8 @@ module _ {A : Type 0} (p : A → Bool) where
   those-append [] ys = refl
   those-append (x ∷ xs) ys = go (p x) (those-append xs ys)
     where
-      go : (t : Bool) → those p (xs ++ ys) ≡ those p xs ++ those p ys → cond t (x ∷ those p (xs ++ ys)) (those p (xs ++ ys)) ≡ cond t (x ∷ those p xs) (those p xs) ++ those p ys
+      go : (t : Bool) → those p (xs ++ ys) ≡ those p xs ++ those p ys
+          → cond t (x ∷ those p (xs ++ ys)) (those p (xs ++ ys)) ≡ cond t (x ∷ those p xs) (those p xs) ++ those p ys
       go true e = ap (λ zs. x ∷ zs) e
       go false e = e
 
@@ -108,7 +110,8 @@ module _ {A : Type 0} (p : A → Bool) where
   howMany-append [] ys = omega arith
   howMany-append (x ∷ xs) ys = go (p x) (howMany-append xs ys)
     where
-      go : (t : Bool) → howMany p (xs ++ ys) ≡ howMany p xs + howMany p ys → cond t (suc (howMany p (xs ++ ys))) (howMany p (xs ++ ys)) ≡ cond t (suc (howMany p xs)) (howMany p xs) + howMany p ys
+      go : (t : Bool) → howMany p (xs ++ ys) ≡ howMany p xs + howMany p ys
+          → cond t (suc (howMany p (xs ++ ys))) (howMany p (xs ++ ys)) ≡ cond t (suc (howMany p xs)) (howMany p xs) + howMany p ys
       go true e = omega arith
       go false e = e
 
@@ -116,7 +119,8 @@ module _ {A : Type 0} (p : A → Bool) where
   howMany-none [] e a t h = List·Memᴰ·not-nil t
   howMany-none (x ∷ xs) e a t h = go (p x) refl (howMany-none xs) e (List·Memᴰ·cases-cons t)
     where
-      go : (b : Bool) → p x ≡ b → (howMany p xs ≡ 0 → (a : A) → List·Memᴰ a xs → p a ≡ true → ⊥) → cond b (suc (howMany p xs)) (howMany p xs) ≡ 0 → (a ≡ x) ⊎ List·Memᴰ a xs → ⊥
+      go : (b : Bool) → p x ≡ b → (howMany p xs ≡ 0 → (a : A) → List·Memᴰ a xs → p a ≡ true → ⊥) → cond b (suc (howMany p xs)) (howMany p xs) ≡ 0
+          → (a ≡ x) ⊎ List·Memᴰ a xs → ⊥
       go true q r d c = omega arith
       go false q r d (inl s) = true≢false (sym h ∙ ap p s ∙ q)
       go false q r d (inr s) = r d a s h
@@ -125,7 +129,8 @@ module _ {A : Type 0} (p : A → Bool) where
   howMany-some [] e = absurd (omega arith)
   howMany-some (x ∷ xs) {n} e = go (p x) refl (howMany-some xs) e
     where
-      go : (b : Bool) → p x ≡ b → (howMany p xs ≡ suc n → (a : A) × List·Memᴰ a xs × (p a ≡ true)) → cond b (suc (howMany p xs)) (howMany p xs) ≡ suc n → (a : A) × List·Memᴰ a (x ∷ xs) × (p a ≡ true)
+      go : (b : Bool) → p x ≡ b → (howMany p xs ≡ suc n → (a : A) × List·Memᴰ a xs × (p a ≡ true))
+          → cond b (suc (howMany p xs)) (howMany p xs) ≡ suc n → (a : A) × List·Memᴰ a (x ∷ xs) × (p a ≡ true)
       go true q r d = (x, List·Memᴰ·head refl, q)
       go false q r d = let (a, t, h) = r d in (a, List·Memᴰ·tail t, h)
 
@@ -165,7 +170,9 @@ module _ {A : Type 0} where
   of-pairs [] ys t = absurd (List·Memᴰ·not-nil t)
   of-pairs {b} (x ∷ xs) ys t = go (List·Memᴰ·append-cases (map (λ y. x ++ y) ys) t) (of-pairs xs ys)
     where
-      go : List·Memᴰ b (map (λ y. x ++ y) ys) ⊎ List·Memᴰ b (pairs xs ys) → (List·Memᴰ b (pairs xs ys) → (c d : List A) × List·Memᴰ c xs × List·Memᴰ d ys × (b ≡ c ++ d)) → (c d : List A) × List·Memᴰ c (x ∷ xs) × List·Memᴰ d ys × (b ≡ c ++ d)
+      go : List·Memᴰ b (map (λ y. x ++ y) ys) ⊎ List·Memᴰ b (pairs xs ys)
+          → (List·Memᴰ b (pairs xs ys) → (c d : List A) × List·Memᴰ c xs × List·Memᴰ d ys × (b ≡ c ++ d))
+          → (c d : List A) × List·Memᴰ c (x ∷ xs) × List·Memᴰ d ys × (b ≡ c ++ d)
       go (inl s) r = let (d, u, e) = of-map (λ y. x ++ y) ys s in (x, d, List·Memᴰ·head refl, u, e)
       go (inr s) r = let (c, d, u, w, e) = r s in (c, d, List·Memᴰ·tail u, w, e)
 
