@@ -1,0 +1,80 @@
+-- Section 2 opens, and the search for a read that is no variable stops where `first` does.
+use native.Mathlib.Omega.{arith}
+use mathlib.Core.Path.{sym, _∙_}
+use denote.Ref.{now}
+use borrow.Author.Tests.{lt-ltb, le-ltb}
+use Rattle.table.specs.Sections.{readsAt}
+use Rattle.table.proofs.Rules.{rest}
+use Rattle.table.proofs.Opened.{Opened, opened, entries-there}
+use borrow.Author.Needs.{needs}
+use Rattle.table.proofs.Cursor.reads.Statement.{statement}
+use Rattle.table.proofs.Cursor.reads.Tie as tie
+
+opens : (c : tie.After-opened) → Opened (now (c .before .before .before .before .args .part)) 0 8192 1 (c .opened .given .0 .0 .count)
+opens c = opened _ _ 0 8192 1 _ (sym (c .before .before .«open» .ensures) ∙ c .opened .given .1) .0
+
+open-requires : tie.Need-open-requires
+open-requires c κs = search needs
+
+enum-known-opened : tie.Need-enum-known-opened
+enum-known-opened c = search needs
+
+enum-told : tie.Need-enum-told
+enum-told c = search needs
+
+returns : tie.Need-returns
+unfolding readsAt
+returns c = simp (← c .before .before .«open» .ensures, c .enum-told .given .1)
+
+sub-first-beyond : tie.Need-sub-first-beyond
+sub-first-beyond c = let o = opens (c .before) in omega arith
+
+part-first-beyond-start : tie.Need-part-first-beyond-start
+part-first-beyond-start c = let o = opens (c .before) in omega arith
+
+part-first-beyond-end : tie.Need-part-first-beyond-end
+part-first-beyond-end c = search needs
+
+first-beyond-requires : tie.Need-first-beyond-requires
+first-beyond-requires c κs = let o = opens (c .before .before) in omega (arith, entries-there o)
+
+add-refused : tie.Need-add-refused
+add-refused c = search needs
+
+add-refused-2 : tie.Need-add-refused-2
+add-refused-2 c = let o = opens (c .before .before .before .before) in omega arith
+
+refused-requires : tie.Need-refused-requires
+refused-requires c κs = let o = opens (c .before .before .before .before) in omega arith
+
+returns-2 : tie.Need-returns-2
+unfolding readsAt
+returns-2 c =
+    let s = c .before .before .before .before .before in
+    let k = simp rest at (c .before .before .first-beyond .ensures) in
+    simp (c .refused .ensures, ← s .before .before .«open» .ensures, s .opened .given .1, ← k, lt-ltb _ _ (c .before .if1 .taken))
+
+returns-3 : tie.Need-returns-3
+unfolding readsAt
+returns-3 c =
+    let s = c .before .before .before .before in
+    let k = simp rest at (c .before .first-beyond .ensures) in
+    simp (← s .before .before .«open» .ensures, s .opened .given .1, ← k, le-ltb _ _ (c .if1 .left))
+
+pub reads-spec : {M : Type 1} → statement M
+reads-spec =
+    tie.close
+    (tie.spec
+    open-requires
+    enum-known-opened
+    enum-told
+    returns
+    sub-first-beyond
+    part-first-beyond-start
+    part-first-beyond-end
+    first-beyond-requires
+    add-refused
+    add-refused-2
+    refused-requires
+    returns-2
+    returns-3)

@@ -1,0 +1,73 @@
+-- Section 4 opens, and the search for an unfit entry stops where `first` does.
+use native.Mathlib.Nat.{zero-add}
+use native.Mathlib.Omega.{arith}
+use mathlib.Core.Path.{sym, _∙_}
+use denote.Ref.{now}
+use borrow.Author.Tests.{lt-ltb, le-ltb}
+use Rattle.table.specs.Sections.{strategyAt}
+use Rattle.table.proofs.Rules.{rest}
+use Rattle.table.proofs.Opened.{Opened, opened, entries-there}
+use borrow.Author.Needs.{needs}
+use Rattle.table.proofs.Cursor.strategy.Statement.{statement}
+use Rattle.table.proofs.Cursor.strategy.Tie as tie
+
+opens : (c : tie.After-opened) → Opened (now (c .before .before .before .before .args .part)) 0 4096 1 (c .opened .given .0 .0 .count)
+opens c = opened _ _ 0 4096 1 _ (sym (c .before .before .«open» .ensures) ∙ c .opened .given .1) .0
+
+open-requires : tie.Need-open-requires
+open-requires c κs = search needs
+
+enum-known-opened : tie.Need-enum-known-opened
+enum-known-opened c = search needs
+
+enum-told : tie.Need-enum-told
+enum-told c = search needs
+
+returns : tie.Need-returns
+unfolding strategyAt
+returns c = simp (← c .before .before .«open» .ensures, c .enum-told .given .1)
+
+sub-first-unfit : tie.Need-sub-first-unfit
+sub-first-unfit c = let o = opens (c .before) in omega arith
+
+part-first-unfit-start : tie.Need-part-first-unfit-start
+part-first-unfit-start c = let o = opens (c .before) in omega arith
+
+part-first-unfit-end : tie.Need-part-first-unfit-end
+part-first-unfit-end c = search needs
+
+first-unfit-requires : tie.Need-first-unfit-requires
+first-unfit-requires c κs = let o = opens (c .before .before) in omega (arith, entries-there o)
+
+refused-requires : tie.Need-refused-requires
+refused-requires c κs = let o = opens (c .before .before .before .before) in omega arith
+
+returns-2 : tie.Need-returns-2
+unfolding strategyAt
+returns-2 c =
+    let s = c .before .before .before .before .before in
+    let k = simp rest at (c .before .before .first-unfit .ensures) in
+    simp (c .refused .ensures, ← s .before .before .«open» .ensures, s .opened .given .1, ← k, lt-ltb _ _ (c .before .if1 .taken), zero-add)
+
+returns-3 : tie.Need-returns-3
+unfolding strategyAt
+returns-3 c =
+    let s = c .before .before .before .before in
+    let k = simp rest at (c .before .first-unfit .ensures) in
+    simp (← s .before .before .«open» .ensures, s .opened .given .1, ← k, le-ltb _ _ (c .if1 .left))
+
+pub strategy-spec : {M : Type 1} → statement M
+strategy-spec =
+    tie.close
+    (tie.spec
+    open-requires
+    enum-known-opened
+    enum-told
+    returns
+    sub-first-unfit
+    part-first-unfit-start
+    part-first-unfit-end
+    first-unfit-requires
+    refused-requires
+    returns-2
+    returns-3)

@@ -1,0 +1,80 @@
+-- Section 1 opens, and the search for a name that falls stops where `first` does.
+use native.Mathlib.Omega.{arith}
+use mathlib.Core.Path.{sym, _∙_}
+use denote.Ref.{now}
+use borrow.Author.Tests.{lt-ltb, le-ltb}
+use Rattle.table.specs.Sections.{variablesAt}
+use Rattle.table.proofs.Rules.{rest}
+use Rattle.table.proofs.Opened.{Opened, opened, entries-there}
+use borrow.Author.Needs.{needs}
+use Rattle.table.proofs.Cursor.variables.Statement.{statement}
+use Rattle.table.proofs.Cursor.variables.Tie as tie
+
+opens : (c : tie.After-opened) → Opened (now (c .before .before .before .before .args .part)) 1 1024 1 (c .opened .given .0 .0 .count)
+opens c = opened _ _ 1 1024 1 _ (sym (c .before .before .«open» .ensures) ∙ c .opened .given .1) .0
+
+open-requires : tie.Need-open-requires
+open-requires c κs = search needs
+
+enum-known-opened : tie.Need-enum-known-opened
+enum-known-opened c = search needs
+
+enum-told : tie.Need-enum-told
+enum-told c = search needs
+
+returns : tie.Need-returns
+unfolding variablesAt
+returns c = simp (← c .before .before .«open» .ensures, c .enum-told .given .1)
+
+sub-first-fall : tie.Need-sub-first-fall
+sub-first-fall c = let o = opens (c .before) in omega arith
+
+part-first-fall-start : tie.Need-part-first-fall-start
+part-first-fall-start c = let o = opens (c .before) in omega arith
+
+part-first-fall-end : tie.Need-part-first-fall-end
+part-first-fall-end c = search needs
+
+first-fall-requires : tie.Need-first-fall-requires
+first-fall-requires c κs = let o = opens (c .before .before) in omega (arith, entries-there o)
+
+add-refused : tie.Need-add-refused
+add-refused c = search needs
+
+add-refused-2 : tie.Need-add-refused-2
+add-refused-2 c = let o = opens (c .before .before .before .before) in omega arith
+
+refused-requires : tie.Need-refused-requires
+refused-requires c κs = let o = opens (c .before .before .before .before) in omega arith
+
+returns-2 : tie.Need-returns-2
+unfolding variablesAt
+returns-2 c =
+    let s = c .before .before .before .before .before in
+    let k = simp rest at (c .before .before .first-fall .ensures) in
+    simp (c .refused .ensures, ← s .before .before .«open» .ensures, s .opened .given .1, ← k, lt-ltb _ _ (c .before .if1 .taken))
+
+returns-3 : tie.Need-returns-3
+unfolding variablesAt
+returns-3 c =
+    let s = c .before .before .before .before in
+    let k = simp rest at (c .before .first-fall .ensures) in
+    simp (← s .before .before .«open» .ensures, s .opened .given .1, ← k, le-ltb _ _ (c .if1 .left))
+
+pub variables-spec : {M : Type 1} → statement M
+variables-spec =
+    tie.close
+    (tie.spec
+    open-requires
+    enum-known-opened
+    enum-told
+    returns
+    sub-first-fall
+    part-first-fall-start
+    part-first-fall-end
+    first-fall-requires
+    add-refused
+    add-refused-2
+    refused-requires
+    returns-2
+    returns-3)

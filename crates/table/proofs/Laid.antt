@@ -1,0 +1,340 @@
+-- What sections that passed tell: where the cursor stands behind each, and that words are sound exactly if they are laid
+-- out so: each section has its count, as many entries as that says, and what document 01 asks of them.
+use Prim.Native.Nat.{ℕ, _+_, _-_, _*_, _<_, _≤_}
+use native.Mathlib.Omega.{arith}
+use mathlib.Core.Bool.{Bool, true, cond, _||_}
+use mathlib.Core.List.{List}
+use mathlib.Core.Path.{_≡_, refl, sym, ap, _∙_}
+use borrow.Author.Tests.{ltb-false, le-ltb}
+use lib.Dec.{ltb}
+use lib.ListN.{length, getD, take, drop, length-drop}
+use lib.Seq.{drop-drop, getD-drop, length-take-le}
+use Rattle.table.specs.declared.Cursor.{Cursor}
+use Rattle.table.specs.declared.Layout.{Layout}
+use Rattle.table.specs.declared.Step.{Step}
+use Rattle.table.specs.declared.Step.the-variants.{Next, Halt}
+use Rattle.table.specs.declared.Checked.the-variants.{Sound}
+use Rattle.table.specs.First.{first}
+use Rattle.table.specs.Rows.{falls, takenBefore, keepsRules, breaksRules, isDeep}
+use Rattle.table.specs.Sections.{halt, unless, start, variablesAt, beyond, readsAt, rowsAt, strategyAt, endAt, partAt, readsOf, sections, layout, answerOf, checked}
+use Rattle.table.specs.Tables.{readsIn, rowsIn}
+use Rattle.table.proofs.First.{first-none}
+use Rattle.table.proofs.Opened.{passed, unless-of, of-unless, through, Opened, behind, held, of-held}
+use Rattle.table.proofs.ThirdSection.{all-keep, all-taken}
+
+-- the count of a part, and its entries
+word-at : (words : List ℕ) (p : ℕ) → getD (drop p words) 0 0 ≡ getD words p 0
+word-at words p = getD-drop p words 0 0 ∙ ap (λ k. getD words k 0) (omega arith)
+
+entries-at : (words : List ℕ) (p q : ℕ) → p + 1 ≡ q → drop 1 (drop p words) ≡ drop q words
+entries-at words p q e = drop-drop 1 p words ∙ ap (λ k. drop k words) e
+
+-- the cursors behind sections of so many names, reads, rows and chosen labels
+abbrev pub afterNames : ℕ → Cursor
+afterNames #V = record { at = #V + 1; count = #V; variables = #V; reads = 0; rows = 0 }
+
+abbrev pub afterReads : ℕ → ℕ → Cursor
+afterReads #V #R = record { at = #V + #R + 2; count = #R; variables = #V; reads = #R; rows = 0 }
+
+abbrev pub afterRows : ℕ → ℕ → ℕ → Cursor
+afterRows #V #R #N = record { at = #V + #R + 4 * #N + 3; count = #N; variables = #V; reads = #R; rows = #N }
+
+abbrev pub afterChosen : ℕ → ℕ → ℕ → ℕ → Cursor
+afterChosen #V #R #N #S = record { at = #V + #R + 4 * #N + #S + 4; count = #S; variables = #V; reads = #R; rows = #N }
+
+-- What document 01 asks of each section of words that are laid out so.
+module _ (words : List ℕ) (l : Layout) where
+  pub record Names : Type 0 where
+    pub some : 1 ≤ l .variables
+    pub most : l .variables ≤ 1024
+    pub counted : getD words 0 0 ≡ l .variables
+    pub ascend : first (falls (drop 1 words)) (l .variables) ≡ l .variables
+
+  pub record Reads : Type 0 where
+    pub most : l .reads ≤ 8192
+    pub counted : getD words (l .variables + 1) 0 ≡ l .reads
+    pub below : first (beyond (drop (l .«reads_at») words) (l .variables)) (l .reads) ≡ l .reads
+
+  pub record Rows : Type 0 where
+    pub some : 1 ≤ l .rows
+    pub most : l .rows ≤ 4096
+    pub counted : getD words (l .variables + l .reads + 2) 0 ≡ l .rows
+    pub keep : (i : ℕ) → i < l .rows → keepsRules (rowsIn words l) (readsIn words l) (l .variables) (l .rows) i ≡ true
+    pub taken : takenBefore (rowsIn words l) (l .rows) ≡ l .reads
+    pub shallow : first (isDeep (rowsIn words l)) (l .rows) ≡ l .rows
+
+  pub record Chosen : Type 0 where
+    pub most : l .chosen ≤ 4096
+    pub counted : getD words (l .variables + l .reads + 4 * l .rows + 3) 0 ≡ l .chosen
+    pub fit : first (λ k. beyond (drop (l .«chosen_at») words) (l .rows) k || falls (drop (l .«chosen_at») words) k) (l .chosen) ≡ l .chosen
+
+  pub record Laid : Type 0 where
+    pub of-counts : l ≡ layout (l .variables) (l .reads) (l .rows) (l .chosen)
+    pub names : Names
+    pub reads : Reads
+    pub rows : Rows
+    pub chosen : Chosen
+    pub all-words : length words ≡ l .variables + l .reads + 4 * l .rows + l .chosen + 4
+
+-- A cursor behind a section, of so many entries, and what holds of that count.
+pub record Behind (d : Cursor) (after : ℕ → Cursor) (Holds : ℕ → Type 0) : Type 0 where
+  pub count : ℕ
+  pub cursor : d ≡ after count
+  pub holds : Holds count
+
+-- how each section's cursor comes of the one that opened it
+abbrev named : Cursor → Step
+named m = Next (record { at = m .at; count = m .count; variables = m .count; reads = m .reads; rows = m .rows })
+
+abbrev read : Cursor → Step
+read m = Next (record { at = m .at; count = m .count; variables = m .variables; reads = m .count; rows = m .rows })
+
+abbrev rowed : List ℕ → ℕ → Cursor → Step
+rowed rows #R m =
+    cond (ltb (takenBefore rows (m .count)) #R) (halt 7 (takenBefore rows (m .count)))
+    (unless 8 0 (isDeep rows) (m .count)
+    (Next (record { at = m .at; count = m .count; variables = m .variables; reads = m .reads; rows = m .count })))
+
+abbrev unfit : List ℕ → ℕ → ℕ → Bool
+unfit entries #N k = beyond entries #N k || falls entries k
+
+of-rowed : (rows : List ℕ) (#R : ℕ) (m : Cursor) → #R ≤ takenBefore rows (m .count) → first (isDeep rows) (m .count) ≡ m .count
+    → rowed rows #R m ≡ Next (record { at = m .at; count = m .count; variables = m .variables; reads = m .reads; rows = m .count })
+of-rowed rows #R m h e = rw (le-ltb (takenBefore rows (m .count)) #R h) (of-unless 8 0 (isDeep rows) (m .count) _ e)
+
+module _ (words : List ℕ) where
+  abbrev pub NamesPassed : Cursor → Type 0
+  NamesPassed a = Behind a afterNames (λ #V. (#V < length words) × ((#R #N #S : ℕ) → Names words (layout #V #R #N #S)))
+
+  abbrev pub ReadsPassed : ℕ → Cursor → Type 0
+  ReadsPassed #V b = Behind b (afterReads #V) (λ #R. (#V + #R + 1 < length words) × ((#N #S : ℕ) → Reads words (layout #V #R #N #S)))
+
+  abbrev pub RowsPassed : ℕ → ℕ → Cursor → Type 0
+  RowsPassed #V #R c = Behind c (afterRows #V #R) (λ #N. (#V + #R + 4 * #N + 2 < length words) × ((#S : ℕ) → Rows words (layout #V #R #N #S)))
+
+  abbrev pub ChosenPassed : ℕ → ℕ → ℕ → Cursor → Type 0
+  ChosenPassed #V #R #N d = Behind d (afterChosen #V #R #N) (λ #S. (#V + #R + 4 * #N + #S + 3 < length words) × Chosen words (layout #V #R #N #S))
+
+  pub names-of : (a : Cursor) → variablesAt words start ≡ Next a → NamesPassed a
+  unfolding variablesAt
+  names-of a e =
+      let h = held words start 1 1024 1 4 1 (λ n. falls (drop 1 words)) named a e in
+      let at : 0 + 1 + h .n * 1 ≡ h .n + 1 = omega arith in
+      record {
+        count = h .n;
+        cursor = cc (h .went);
+        holds = (omega arith, λ #R #N #S. record { some = h .opens .least; most = h .opens .most; counted = h .opens .word; ascend = h .fit });
+      }
+
+  pub of-names : (#V #R #N #S : ℕ) → Names words (layout #V #R #N #S) → #V < length words → variablesAt words start ≡ Next (afterNames #V)
+  unfolding variablesAt
+  of-names #V #R #N #S h room =
+      let o : Opened words 1 1024 1 #V = record { word = h .counted; least = h .some; most = h .most; room = omega arith } in
+      let at : 0 + 1 + #V * 1 ≡ #V + 1 = omega arith in
+      cc (of-held words start 1 1024 1 4 1 (λ n. falls (drop 1 words)) named #V o (h .ascend))
+
+  pub reads-of : (#V : ℕ) (a b : Cursor) → a ≡ afterNames #V → readsAt (partAt words a) a ≡ Next b → ReadsPassed #V b
+  unfolding readsAt
+  reads-of #V a b q e =
+      let es : drop 1 (drop (#V + 1) words) ≡ drop (#V + 2) words = entries-at words (#V + 1) (#V + 2) (omega arith) in
+      let h = held (drop (#V + 1) words) (afterNames #V) 0 8192 1 5 (#V + 1 + 1) (λ n. beyond (drop (#V + 2) words) #V) read b (simp (q, es) at e) in
+      let is : b ≡ record { at = #V + 1 + 1 + h .n * 1; count = h .n; variables = #V; reads = h .n; rows = 0 } = cc in
+      record {
+        count = h .n;
+        cursor = is ∙ ap (λ at. record { at = at; count = h .n; variables = #V; reads = h .n; rows = 0 }) (omega arith);
+        holds = (
+          omega (arith, length-drop (#V + 1) words),
+          λ #N #S. record { most = h .opens .most; counted = sym (word-at words (#V + 1)) ∙ h .opens .word; below = h .fit },
+        );
+      }
+
+  pub of-reads : (#V #R #N #S : ℕ) → Reads words (layout #V #R #N #S) → #V + #R + 1 < length words
+      → readsAt (drop (#V + 1) words) (afterNames #V) ≡ Next (afterReads #V #R)
+  unfolding readsAt
+  of-reads #V #R #N #S h room =
+      rw (entries-at words (#V + 1) (#V + 2) (omega arith))
+      (of-held (drop (#V + 1) words) (afterNames #V) 0 8192 1 5 (#V + 1 + 1) (λ n. beyond (drop (#V + 2) words) #V) read #R
+      (record { word = word-at words (#V + 1) ∙ h .counted; least = omega arith; most = h .most; room = omega (arith, length-drop (#V + 1) words) }) (h .below)
+      ∙ ap (λ at. Next (record { at = at; count = #R; variables = #V; reads = #R; rows = 0 })) (omega arith))
+
+  -- the reads that stand before the cursor behind section 2
+  pub reads-before : (#V #R : ℕ) → readsOf words (afterReads #V #R) ≡ take #R (drop (#V + 2) words)
+  reads-before #V #R = let z : #V + #R + 2 - #R ≡ #V + 2 = omega arith in rw z
+
+  pub rows-of : (#V #R : ℕ) (b c : Cursor) → b ≡ afterReads #V #R → rowsAt (partAt words b) (readsOf words b) b ≡ Next c → RowsPassed #V #R c
+  unfolding rowsAt
+  rows-of #V #R b c q e =
+      let p = drop (#V + #R + 2) words in
+      let rows = drop (#V + #R + 3) words in
+      let reads = take #R (drop (#V + 2) words) in
+      let es : drop 1 p ≡ rows = entries-at words (#V + #R + 2) (#V + #R + 3) (omega arith) in
+      let h = held p (afterReads #V #R) 1 4096 4 6 0 (λ n. breaksRules rows reads #V n) (rowed rows #R) c (simp (q, reads-before, es) at e) in
+      let t = passed (ltb (takenBefore rows (h .n)) #R) _ _ c (h .went) in
+      let u = unless-of 8 0 (isDeep rows) (h .n) _ c (t .1) in
+      let is : c ≡ record { at = #V + #R + 2 + 1 + h .n * 4; count = h .n; variables = #V; reads = #R; rows = h .n } = cc in
+      record {
+        count = h .n;
+        cursor = is ∙ ap (λ at. record { at = at; count = h .n; variables = #V; reads = #R; rows = h .n }) (omega arith);
+        holds = (
+          omega (arith, length-drop (#V + #R + 2) words),
+          λ #S. record {
+            some = h .opens .least;
+            most = h .opens .most;
+            counted = sym (word-at words (#V + #R + 2)) ∙ h .opens .word;
+            keep = all-keep rows reads #V (h .n) (h .fit);
+            taken = all-taken rows reads #V (h .n) #R (length-take-le #R _ (omega (arith, length-drop (#V + #R + 2) words, length-drop (#V + 2) words))) (h .fit) (ltb-false _ _ (t .0));
+            shallow = u .0;
+          },
+        );
+      }
+
+  pub of-rows : (#V #R #N #S : ℕ) → Rows words (layout #V #R #N #S) → #V + #R + 4 * #N + 2 < length words
+      → rowsAt (drop (#V + #R + 2) words) (readsOf words (afterReads #V #R)) (afterReads #V #R) ≡ Next (afterRows #V #R #N)
+  unfolding rowsAt
+  of-rows #V #R #N #S h room =
+      let p = drop (#V + #R + 2) words in
+      let rows = drop (#V + #R + 3) words in
+      let reads = take #R (drop (#V + 2) words) in
+      rw (reads-before, entries-at words (#V + #R + 2) (#V + #R + 3) (omega arith))
+      (of-held p (afterReads #V #R) 1 4096 4 6 0 (λ n. breaksRules rows reads #V n) (rowed rows #R) #N
+      (record { word = word-at words (#V + #R + 2) ∙ h .counted; least = h .some; most = h .most; room = omega (arith, length-drop (#V + #R + 2) words) })
+      (first-none _ #N (λ i k. rw (h .keep i k)))
+      ∙ of-rowed rows #R (behind (afterReads #V #R) 4 #N) (omega arith) (h .shallow)
+      ∙ ap (λ at. Next (record { at = at; count = #N; variables = #V; reads = #R; rows = #N })) (omega arith))
+
+  pub chosen-of : (#V #R #N : ℕ) (c d : Cursor) → c ≡ afterRows #V #R #N → strategyAt (partAt words c) c ≡ Next d → ChosenPassed #V #R #N d
+  unfolding strategyAt
+  chosen-of #V #R #N c d q e =
+      let p = drop (#V + #R + 4 * #N + 3) words in
+      let entries = drop (#V + #R + 4 * #N + 4) words in
+      let es : drop 1 p ≡ entries = entries-at words (#V + #R + 4 * #N + 3) (#V + #R + 4 * #N + 4) (omega arith) in
+      let h = held p (afterRows #V #R #N) 0 4096 1 9 0 (λ n. unfit entries #N) Next d (simp (q, es) at e) in
+      let is : d ≡ record { at = #V + #R + 4 * #N + 3 + 1 + h .n * 1; count = h .n; variables = #V; reads = #R; rows = #N } = cc in
+      record {
+        count = h .n;
+        cursor = is ∙ ap (λ at. record { at = at; count = h .n; variables = #V; reads = #R; rows = #N }) (omega arith);
+        holds = (
+          omega (arith, length-drop (#V + #R + 4 * #N + 3) words),
+          record { most = h .opens .most; counted = sym (word-at words (#V + #R + 4 * #N + 3)) ∙ h .opens .word; fit = h .fit },
+        );
+      }
+
+  pub of-chosen : (#V #R #N #S : ℕ) → Chosen words (layout #V #R #N #S) → #V + #R + 4 * #N + #S + 3 < length words
+      → strategyAt (drop (#V + #R + 4 * #N + 3) words) (afterRows #V #R #N) ≡ Next (afterChosen #V #R #N #S)
+  unfolding strategyAt
+  of-chosen #V #R #N #S h room =
+      let entries = drop (#V + #R + 4 * #N + 4) words in
+      rw (entries-at words (#V + #R + 4 * #N + 3) (#V + #R + 4 * #N + 4) (omega arith))
+      (of-held (drop (#V + #R + 4 * #N + 3) words) (afterRows #V #R #N) 0 4096 1 9 0 (λ n. unfit entries #N) Next #S
+      (record { word = word-at words (#V + #R + 4 * #N + 3) ∙ h .counted; least = omega arith; most = h .most; room = omega (arith, length-drop (#V + #R + 4 * #N + 3) words) })
+      (h .fit)
+      ∙ ap (λ at. Next (record { at = at; count = #S; variables = #V; reads = #R; rows = #N })) (omega arith))
+
+  -- how far a cursor behind a section stands
+  pub record Stands (d : Cursor) : Type 0 where
+    pub near : d .at ≤ 65536
+    pub within : d .at ≤ length words
+
+  module _ {a : Cursor} (p : NamesPassed a) where
+    pub names-stand : Stands a
+    names-stand = let v = p .holds .1 0 0 0 .most in let z = p .holds .0 in rw (p .cursor) (record { near = omega arith; within = omega arith })
+
+    module _ {b : Cursor} (q : ReadsPassed (p .count) b) where
+      pub reads-stand : Stands b
+      reads-stand =
+          let v = p .holds .1 0 0 0 .most in let w = q .holds .1 0 0 .most in let z = q .holds .0 in
+          rw (q .cursor) (record { near = omega arith; within = omega arith })
+
+      -- the reads are what stands between the two count words
+      pub reads-between : b .at ≡ a .at + 1 + b .reads
+      reads-between = rw (p .cursor, q .cursor) (omega arith)
+
+      pub between-reads : take (b .at - (a .at + 1)) (drop (a .at + 1) words) ≡ readsOf words b
+      between-reads =
+          let e = reads-between in
+          let n : b .at - (a .at + 1) ≡ b .reads = omega arith in
+          let k : b .at - b .reads ≡ a .at + 1 = omega arith in
+          rw (n, k)
+
+      pub length-between : length (take (b .at - (a .at + 1)) (drop (a .at + 1) words)) ≡ b .reads
+      length-between =
+          let e = reads-between in
+          let s = reads-stand in
+          length-take-le (b .at - (a .at + 1)) (drop (a .at + 1) words) (omega (arith, length-drop (a .at + 1) words)) ∙ omega arith
+
+      module _ {c : Cursor} (r : RowsPassed (p .count) (q .count) c) where
+        pub rows-stand : Stands c
+        rows-stand =
+            let v = p .holds .1 0 0 0 .most in let w = q .holds .1 0 0 .most in let x = r .holds .1 0 .most in let z = r .holds .0 in
+            rw (r .cursor) (record { near = omega arith; within = omega arith })
+
+        pub chosen-stand : {d : Cursor} → ChosenPassed (p .count) (q .count) (r .count) d → Stands d
+        chosen-stand s =
+            let v = p .holds .1 0 0 0 .most in let w = q .holds .1 0 0 .most in let x = r .holds .1 0 .most in let y = s .holds .1 .most in let z = s .holds .0 in
+            rw (s .cursor) (record { near = omega arith; within = omega arith })
+
+  end-of : (c d : Cursor) → endAt (length words) c ≡ Next d → (length words ≤ c .at) × (d ≡ c)
+  unfolding endAt
+  end-of c d e = let p = passed (ltb (c .at) (length words)) _ (Next c) d e in (ltb-false _ _ (p .0), (cc))
+
+  -- words of which every section passed
+  pub record Sectioned (d : Cursor) : Type 0 where
+    pub #V : ℕ
+    pub #R : ℕ
+    pub #N : ℕ
+    pub #S : ℕ
+    pub cursor : d ≡ afterChosen #V #R #N #S
+    pub laid-out : Laid words (layout #V #R #N #S)
+
+  pub sections-of : (d : Cursor) → sections words ≡ Next d → Sectioned d
+  unfolding sections
+  sections-of d e =
+      let t = through (variablesAt words start) _ d e in
+      let p = names-of (t .mid) (t .came) in
+      let u = through (readsAt (partAt words (t .mid)) (t .mid)) _ d (t .went) in
+      let q = reads-of (p .count) (t .mid) (u .mid) (p .cursor) (u .came) in
+      let v = through (rowsAt (partAt words (u .mid)) (readsOf words (u .mid)) (u .mid)) _ d (u .went) in
+      let r = rows-of (p .count) (q .count) (u .mid) (v .mid) (q .cursor) (v .came) in
+      let w = through (strategyAt (partAt words (v .mid)) (v .mid)) _ d (v .went) in
+      let s = chosen-of (p .count) (q .count) (r .count) (v .mid) (w .mid) (r .cursor) (w .came) in
+      let z = end-of (w .mid) d (w .went) in
+      record {
+        #V = p .count;
+        #R = q .count;
+        #N = r .count;
+        #S = s .count;
+        cursor = z .1 ∙ s .cursor;
+        laid-out = record {
+          of-counts = refl;
+          names = p .holds .1 (q .count) (r .count) (s .count);
+          reads = q .holds .1 (r .count) (s .count);
+          rows = r .holds .1 (s .count);
+          chosen = s .holds .1;
+          all-words = omega (arith, s .holds .0, z .0, ap (λ x. x .at) (s .cursor));
+        };
+      }
+
+  pub counts-small : (d : Cursor) → sections words ≡ Next d → (d .variables ≤ 1024) × (d .reads ≤ 8192) × (d .rows ≤ 4096)
+  counts-small d e = let s = sections-of d e in let h = s .laid-out in rw (s .cursor) (h .names .most, h .reads .most, h .rows .most)
+
+  of-sections : (#V #R #N #S : ℕ) → Laid words (layout #V #R #N #S) → sections words ≡ Next (afterChosen #V #R #N #S)
+  unfolding sections endAt
+  of-sections #V #R #N #S h =
+      let all = h .all-words in
+      rw (of-names #V #R #N #S (h .names) (omega arith), of-reads #V #R #N #S (h .reads) (omega arith), of-rows #V #R #N #S (h .rows) (omega arith), of-chosen #V #R #N #S (h .chosen) (omega arith), le-ltb (#V + #R + 4 * #N + #S + 4) (length words) (omega arith))
+
+  sound-of : (s : Step) (l : Layout) → answerOf s ≡ Sound l → (d : Cursor) × (s ≡ Next d) × (l ≡ layout (d .variables) (d .reads) (d .rows) (d .count))
+  sound-of (Halt r) l e = let z : _≡_ {A = ℕ} 0 1 = cc in absurd (omega arith)
+  sound-of (Next d) l e = (d, refl, (cc))
+
+  -- words are sound exactly if they are laid out so
+  pub accepted : (l : Layout) → checked words ≡ Sound l → Laid words l
+  unfolding checked
+  accepted l e =
+      let a = sound-of (sections words) l e in
+      let s = sections-of (a .0) (a .1) in
+      rw (a .2, s .cursor) (s .laid-out)
+
+  pub laid : (l : Layout) → Laid words l → checked words ≡ Sound l
+  unfolding checked
+  laid l h = rw (h .of-counts) (ap answerOf (of-sections (l .variables) (l .reads) (l .rows) (l .chosen) (rw (h .of-counts) at h)))

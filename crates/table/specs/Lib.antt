@@ -1,0 +1,8 @@
+pub mod First
+pub mod Rows
+pub mod Sections
+pub mod Formula
+pub mod Written
+pub mod Tables
+pub mod Example
+pub mod Walk

@@ -1,0 +1,85 @@
+-- The table that words write, and the theorem that joins checker and writer: words pass the checks exactly if they are the
+-- written form of one table within the bounds, and that table is the one that is read from them (proofs/Tables.antt).
+use Prim.Native.Nat.{ℕ, suc, _+_, _*_, _<_, _≤_}
+use mathlib.Core.Bool.{true}
+use mathlib.Core.List.{List, map}
+use mathlib.Core.Path.{_≡_}
+use mathlib.Core.Logic.{_↔_}
+use lib.ListN.{length, getD, take, drop}
+use Rattle.paper.specs.Formula.{ℓ, Formula, labels, WellFormed}
+use Rattle.table.specs.declared.Layout.{Layout}
+use Rattle.table.specs.declared.Checked.the-variants.{Sound}
+use Rattle.table.specs.Rows.{keepsRules, Nested}
+use Rattle.table.specs.Sections.{layout, checked}
+use Rattle.table.specs.Formula.{formulaAt}
+use Rattle.table.specs.Written.{Table, written, Within, takenReads, size, depth, labelsOn}
+
+-- the parts of words laid out so: names, reads, rows, strategy
+module _ (words : List ℕ) (l : Layout) where
+  abbrev pub namesIn : List ℕ
+  namesIn = take (l .variables) (drop 1 words)
+
+  abbrev pub readsIn : List ℕ
+  readsIn = take (l .reads) (drop (l .«reads_at») words)
+
+  abbrev pub rowsIn : List ℕ
+  rowsIn = drop (l .«rows_at») words
+
+  abbrev pub chosenIn : List ℕ
+  chosenIn = take (l .chosen) (drop (l .«chosen_at») words)
+
+  -- the formula that the rows write, 64 levels deep at most
+  abbrev pub formulaIn : Formula
+  formulaIn = formulaAt rowsIn readsIn 64 0
+
+  abbrev pub tableIn : Table
+  tableIn = record { names = namesIn; formula = formulaIn; strategy = map ℓ chosenIn }
+
+-- the layout of a table's words
+abbrev pub layoutOf : Table → Layout
+layoutOf t = layout (length (t .names)) (length (takenReads (t .formula))) (size (t .formula)) (length (t .strategy))
+
+-- words are sound exactly if they write a table within the bounds
+abbrev pub SoundExactly : List ℕ → Type 0
+SoundExactly words = ((l : Layout) × (checked words ≡ Sound l)) ↔ ((t : Table) × Within t × (words ≡ written t))
+
+-- and that table is the one read from them: so there is one only
+abbrev pub OneTable : List ℕ → Type 0
+OneTable words = (t : Table) → Within t → words ≡ written t → (checked words ≡ Sound (layoutOf t)) × (tableIn words (layoutOf t) ≡ t)
+
+-- no two tables within the bounds are written alike
+abbrev pub WrittenOnce : Type 0
+WrittenOnce = (t u : Table) → Within t → Within u → written t ≡ written u → t ≡ u
+
+-- What sound words hold: the table that they write, by its bounds and by its words; and what a walk over its rows, its reads
+-- and its strategy goes by.
+pub record Understood (words : List ℕ) (l : Layout) : Type 0 where
+  pub within : Within (tableIn words l)
+  pub words-are : words ≡ written (tableIn words l)
+  pub laid-out : l ≡ layoutOf (tableIn words l)
+  -- the counts and positions
+  pub of-counts : l ≡ layout (l .variables) (l .reads) (l .rows) (l .chosen)
+  pub all-words : length words ≡ l .«chosen_at» + l .chosen
+  pub some-variables : 1 ≤ l .variables
+  pub most-variables : l .variables ≤ 1024
+  pub most-reads : l .reads ≤ 8192
+  pub some-rows : 1 ≤ l .rows
+  pub most-rows : l .rows ≤ 4096
+  pub most-chosen : l .chosen ≤ 4096
+  -- the parts: they are all there
+  pub names-there : length (namesIn words l) ≡ l .variables
+  pub reads-there : length (readsIn words l) ≡ l .reads
+  pub rows-there : 4 * l .rows ≤ length (rowsIn words l)
+  pub chosen-there : length (chosenIn words l) ≡ l .chosen
+  -- their contents
+  pub reads-below : (k : ℕ) → k < l .reads → getD (readsIn words l) k 0 < l .variables
+  pub rules-kept : (i : ℕ) → i < l .rows → keepsRules (rowsIn words l) (readsIn words l) (l .variables) (l .rows) i ≡ true
+  pub nested : Nested (rowsIn words l) (l .rows)
+  pub chosen-ascend : (k : ℕ) → suc k < l .chosen → getD (chosenIn words l) k 0 < getD (chosenIn words l) (suc k) 0
+  pub chosen-below : (k : ℕ) → k < l .chosen → getD (chosenIn words l) k 0 < l .rows
+  -- the formula
+  pub size-is : size (formulaIn words l) ≡ l .rows
+  pub shallow : depth (formulaIn words l) ≤ 64
+  pub labels-are : labels (formulaIn words l) ≡ labelsOn 0 (l .rows)
+  pub reads-are : takenReads (formulaIn words l) ≡ readsIn words l
+  pub well-formed : WellFormed (l .variables) (formulaIn words l)

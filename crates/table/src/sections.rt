@@ -1,0 +1,275 @@
+// The sections of a table, each handed on as the part of the words from its count word on, and wholly checked before the
+// next: refusals 1, 2, 4, 5, 9 and 3, and 6 to 8 by the rows' own checks.
+ghost use mathlib.Core.Path.{_≡_};
+ghost use Prim.Native.Nat.{_+_, _*_, _≤_, _<_, _^_};
+ghost use mathlib.Core.Bool.{_||_};
+ghost use lib.ListN.{length};
+ghost use Rattle.table.specs.First.{first};
+ghost use Rattle.table.specs.Rows.{falls};
+ghost use Rattle.table.specs.Sections.{halt, start, openAt, beyond, variablesAt, readsAt, rowsAt, strategyAt, endAt, sections, answerOf};
+use crate::Checked;
+use crate::Cursor;
+use crate::Layout;
+use crate::Refusal;
+use crate::Step;
+use crate::depth::first_deep;
+use crate::rows::first_broken;
+use crate::rows::first_fall;
+use crate::rows::reads_taken;
+use crate::rows::wide;
+use paper::Label;
+use paper::Variable;
+
+// A refusal as a step.
+fn refused(number: u8, place: usize) -> Step
+    requires { ⌜ place < 2 ^ 32 ⌝ }
+    ensures { λ r. ⌜ r ≡ halt number place ⌝ }
+{
+    Step::Halt(Refusal {
+        number,
+        place: place as u32,
+    })
+}
+
+// The lowest of n entries that is no variable below `variables`, or n.
+fn first_beyond(entries: &[u16], n: usize, variables: usize) -> usize
+    requires { ⌜ n ≤ length (now entries) ⌝ }
+    ensures { λ r. ⌜ r ≡ first (beyond (now (entries .entry)) variables) n ⌝ }
+{
+    let mut k = 0;
+    while k < n {
+        let v = Variable(entries[k]);
+        if variables <= wide(v.0) {
+            return k;
+        }
+        k += 1;
+    }
+    n
+}
+
+// Whether entry k of a strategy is no label below `rows`, or not above the one before.
+fn is_unfit(entries: &[u16], k: usize, rows: usize) -> bool
+    requires { ⌜ k < length (now entries) ⌝ }
+    ensures { λ r. ⌜ r ≡ (beyond (now (entries .entry)) rows k || falls (now (entries .entry)) k) ⌝ }
+{
+    let l = Label(entries[k]);
+    if rows <= wide(l.0) {
+        return true;
+    }
+    if k == 0 {
+        return false;
+    }
+    l.0 <= entries[k - 1]
+}
+
+// The lowest of n entries of a strategy that is unfit, or n.
+fn first_unfit(entries: &[u16], n: usize, rows: usize) -> usize
+    requires { ⌜ n ≤ length (now entries) ⌝ }
+    ensures { λ r. ⌜ r ≡ first (λ k. beyond (now (entries .entry)) rows k || falls (now (entries .entry)) k) n ⌝ }
+{
+    let mut k = 0;
+    while k < n {
+        if is_unfit(entries, k, rows) {
+            return k;
+        }
+        k += 1;
+    }
+    n
+}
+
+impl Cursor {
+    // Before the first section.
+    pub fn new() -> Self
+        ensures { λ r. ⌜ r ≡ start ⌝ }
+    {
+        Cursor {
+            at: 0,
+            count: 0,
+            variables: 0,
+            reads: 0,
+            rows: 0,
+        }
+    }
+
+    // The section's count and its presence.
+    pub fn open(self, part: &[u16], low: usize, high: usize, width: usize) -> Step
+        requires { ⌜ (self .at ≤ 65536) × (high * width ≤ 65536) ⌝ }
+        ensures { λ r. ⌜ r ≡ openAt (now (part .entry)) self low high width ⌝ }
+    {
+        let at = self.at;
+        let present = part.len();
+        if present == 0 {
+            return refused(1, at + present);
+        }
+        let count = wide(part[0]);
+        if count < low {
+            return refused(2, at);
+        }
+        if high < count {
+            return refused(2, at);
+        }
+        let words = count * width;
+        if present - 1 < words {
+            return refused(1, at + present);
+        }
+        Step::Next(Cursor {
+            at: at + 1 + words,
+            count,
+            variables: self.variables,
+            reads: self.reads,
+            rows: self.rows,
+        })
+    }
+
+    // Section 1: names, strictly ascending.
+    pub fn variables(self, part: &[u16]) -> Step
+        requires { ⌜ self .at ≤ 65536 ⌝ }
+        ensures { λ r. ⌜ r ≡ variablesAt (now (part .entry)) self ⌝ }
+    {
+        let at = self.at;
+        let opened = self.open(part, 1, 1024, 1);
+        let Step::Next(next) = opened else {
+            return opened;
+        };
+        let n = next.count;
+        let k = first_fall(&part[1..], n);
+        if k < n {
+            return refused(4, at + 1 + k);
+        }
+        Step::Next(Cursor {
+            at: next.at,
+            count: n,
+            variables: n,
+            reads: next.reads,
+            rows: next.rows,
+        })
+    }
+
+    // Section 2: reads, each a variable.
+    pub fn reads(self, part: &[u16]) -> Step
+        requires { ⌜ self .at ≤ 65536 ⌝ }
+        ensures { λ r. ⌜ r ≡ readsAt (now (part .entry)) self ⌝ }
+    {
+        let at = self.at;
+        let opened = self.open(part, 0, 8192, 1);
+        let Step::Next(next) = opened else {
+            return opened;
+        };
+        let n = next.count;
+        let k = first_beyond(&part[1..], n, self.variables);
+        if k < n {
+            return refused(5, at + 1 + k);
+        }
+        Step::Next(Cursor {
+            at: next.at,
+            count: n,
+            variables: next.variables,
+            reads: n,
+            rows: next.rows,
+        })
+    }
+
+    // Section 3: rows that keep their rules, take all reads and are no deeper than 64.
+    pub fn rows(self, part: &[u16], reads: &[u16]) -> Step
+        requires { ⌜ (self .at ≤ 65536) × (length (now reads) ≡ self .reads) ⌝ }
+        ensures { λ r. ⌜ r ≡ rowsAt (now (part .entry)) (now (reads .entry)) self ⌝ }
+    {
+        let opened = self.open(part, 1, 4096, 4);
+        let Step::Next(next) = opened else {
+            return opened;
+        };
+        let n = next.count as u16;
+        let rows = &part[1..];
+        let broken = first_broken(rows, reads, self.variables, n);
+        if broken < n {
+            return refused(6, wide(broken));
+        }
+        let taken = reads_taken(rows, n);
+        if taken < self.reads {
+            return refused(7, taken);
+        }
+        let deep = first_deep(rows, n, Label(0), 64);
+        if deep.0 < n {
+            return refused(8, wide(deep.0));
+        }
+        Step::Next(Cursor {
+            at: next.at,
+            count: next.count,
+            variables: next.variables,
+            reads: next.reads,
+            rows: next.count,
+        })
+    }
+
+    // Section 4: labels of rows, strictly ascending.
+    pub fn strategy(self, part: &[u16]) -> Step
+        requires { ⌜ self .at ≤ 65536 ⌝ }
+        ensures { λ r. ⌜ r ≡ strategyAt (now (part .entry)) self ⌝ }
+    {
+        let opened = self.open(part, 0, 4096, 1);
+        let Step::Next(next) = opened else {
+            return opened;
+        };
+        let n = next.count;
+        let k = first_unfit(&part[1..], n, self.rows);
+        if k < n {
+            return refused(9, k);
+        }
+        opened
+    }
+
+    // Nothing follows.
+    pub fn end(self, present: usize) -> Step
+        requires { ⌜ self .at ≤ 65536 ⌝ }
+        ensures { λ r. ⌜ r ≡ endAt present self ⌝ }
+    {
+        let at = self.at;
+        if at < present {
+            return refused(3, at);
+        }
+        Step::Next(self)
+    }
+}
+
+// All sections, each handed on from its first word.
+pub fn sections(words: &[u16]) -> Step
+    ensures { λ r. ⌜ r ≡ sections (now (words .entry)) ⌝ }
+{
+    let start = Cursor::new();
+    let first = start.variables(words);
+    let Step::Next(one) = first else {
+        return first;
+    };
+    let a = one.at;
+    let second = one.reads(&words[a..]);
+    let Step::Next(two) = second else {
+        return second;
+    };
+    let b = two.at;
+    let third = two.rows(&words[b..], &words[a + 1..b]);
+    let Step::Next(three) = third else {
+        return third;
+    };
+    let c = three.at;
+    let fourth = three.strategy(&words[c..]);
+    let Step::Next(four) = fourth else {
+        return fourth;
+    };
+    four.end(words.len())
+}
+
+// What the last cursor found, with the positions that follow from it.
+pub fn laid_out(c: Cursor) -> Checked
+    requires { ⌜ (c .variables ≤ 1024) × (c .reads ≤ 8192) × (c .rows ≤ 4096) ⌝ }
+    ensures { λ r. ⌜ r ≡ answerOf (Step.Next c) ⌝ }
+{
+    Checked::Sound(Layout {
+        variables: c.variables,
+        reads: c.reads,
+        rows: c.rows,
+        chosen: c.count,
+        reads_at: c.variables + 2,
+        rows_at: c.variables + c.reads + 3,
+        chosen_at: c.variables + c.reads + 4 * c.rows + 4,
+    })
+}
