@@ -10,6 +10,7 @@ use Rattle.table.specs.First.{first}
 use Rattle.table.specs.Rows.{formOf, meets, ascend, takenBefore, falseRule, starRule, candidateRule, joinRule, boundRule, endsWithin, keepsRules, roundOf, depthOf, InRows, Nested}
 use Rattle.table.specs.Sections.{openAt, variablesAt, readsAt, rowsAt, strategyAt, endAt, sections, checked, layout}
 use Rattle.table.specs.Formula.{starAt, childrenAt, nodeAt, formulaAt}
+use Rattle.table.specs.Walk.{Walkable}
 use Rattle.table.specs.Written.{written, Within}
 use Rattle.table.specs.Tables.{rowsIn, tableIn, Understood}
 use Rattle.table.specs.Example.{wordsOfP, tableOfP}
@@ -42,6 +43,9 @@ P-is-within = subst Within P-is-read (P-is-understood .within)
 pub P-has-rows : (i : ℕ) → i < 8 → InRows rowsOfP 8 i
 P-has-rows i h = record { room = P-is-understood .rows-there; few = P-is-understood .most-rows; here = h }
 
-pub P-can-be-walked : Nested rowsOfP 8 × (0 < 8) × (depthOf rowsOfP 0 + 64 ≡ 65)
+pub P-has-depth : Nested rowsOfP 8 × (0 < 8) × (depthOf rowsOfP 0 + 64 ≡ 65)
 unfolding roundOf
-P-can-be-walked = (P-is-understood .nested, omega arith, refl)
+P-has-depth = (P-is-understood .nested, omega arith, refl)
+
+pub P-can-be-walked : (i : ℕ) → i < 8 → Walkable rowsOfP 8 i
+P-can-be-walked i h = record { shaped = P-is-understood .shaped; here = h }

@@ -171,6 +171,7 @@ module _ (words : List ℕ) where
       let h = held p (afterReads #V #R) 1 4096 4 6 0 (λ n. breaksRules rows reads #V n) (rowed rows #R) c (simp (q, reads-before, es) at e) in
       let t = passed (ltb (takenBefore rows (h .n)) #R) _ _ c (h .went) in
       let u = unless-of 8 0 (isDeep rows) (h .n) _ c (t .1) in
+      let there = length-take-le #R (drop (#V + 2) words) (omega (arith, length-drop (#V + #R + 2) words, length-drop (#V + 2) words)) in
       let is : c ≡ record { at = #V + #R + 2 + 1 + h .n * 4; count = h .n; variables = #V; reads = #R; rows = h .n } = cc in
       record {
         count = h .n;
@@ -182,7 +183,7 @@ module _ (words : List ℕ) where
             most = h .opens .most;
             counted = sym (word-at words (#V + #R + 2)) ∙ h .opens .word;
             keep = all-keep rows reads #V (h .n) (h .fit);
-            taken = all-taken rows reads #V (h .n) #R (length-take-le #R _ (omega (arith, length-drop (#V + #R + 2) words, length-drop (#V + 2) words))) (h .fit) (ltb-false _ _ (t .0));
+            taken = all-taken rows reads #V (h .n) #R there (h .fit) (ltb-false _ _ (t .0));
             shallow = u .0;
           },
         );
@@ -223,25 +224,26 @@ module _ (words : List ℕ) where
       → strategyAt (drop (#V + #R + 4 * #N + 3) words) (afterRows #V #R #N) ≡ Next (afterChosen #V #R #N #S)
   unfolding strategyAt
   of-chosen #V #R #N #S h room =
+      let p = #V + #R + 4 * #N + 3 in
       let entries = drop (#V + #R + 4 * #N + 4) words in
-      rw (entries-at words (#V + #R + 4 * #N + 3) (#V + #R + 4 * #N + 4) (omega arith))
-      (of-held (drop (#V + #R + 4 * #N + 3) words) (afterRows #V #R #N) 0 4096 1 9 0 (λ n. unfit entries #N) Next #S
-      (record { word = word-at words (#V + #R + 4 * #N + 3) ∙ h .counted; least = omega arith; most = h .most; room = omega (arith, length-drop (#V + #R + 4 * #N + 3) words) })
+      rw (entries-at words p (#V + #R + 4 * #N + 4) (omega arith))
+      (of-held (drop p words) (afterRows #V #R #N) 0 4096 1 9 0 (λ n. unfit entries #N) Next #S
+      (record { word = word-at words p ∙ h .counted; least = omega arith; most = h .most; room = omega (arith, length-drop p words) })
       (h .fit)
       ∙ ap (λ at. Next (record { at = at; count = #S; variables = #V; reads = #R; rows = #N })) (omega arith))
 
   -- how far a cursor behind a section stands
-  pub record Stands (d : Cursor) : Type 0 where
+  pub record InReach (d : Cursor) : Type 0 where
     pub near : d .at ≤ 65536
     pub within : d .at ≤ length words
 
   module _ {a : Cursor} (p : NamesPassed a) where
-    pub names-stand : Stands a
-    names-stand = let v = p .holds .1 0 0 0 .most in let z = p .holds .0 in rw (p .cursor) (record { near = omega arith; within = omega arith })
+    pub names-reach : InReach a
+    names-reach = let v = p .holds .1 0 0 0 .most in let z = p .holds .0 in rw (p .cursor) (record { near = omega arith; within = omega arith })
 
     module _ {b : Cursor} (q : ReadsPassed (p .count) b) where
-      pub reads-stand : Stands b
-      reads-stand =
+      pub reads-reach : InReach b
+      reads-reach =
           let v = p .holds .1 0 0 0 .most in let w = q .holds .1 0 0 .most in let z = q .holds .0 in
           rw (q .cursor) (record { near = omega arith; within = omega arith })
 
@@ -259,18 +261,19 @@ module _ (words : List ℕ) where
       pub length-between : length (take (b .at - (a .at + 1)) (drop (a .at + 1) words)) ≡ b .reads
       length-between =
           let e = reads-between in
-          let s = reads-stand in
+          let s = reads-reach in
           length-take-le (b .at - (a .at + 1)) (drop (a .at + 1) words) (omega (arith, length-drop (a .at + 1) words)) ∙ omega arith
 
       module _ {c : Cursor} (r : RowsPassed (p .count) (q .count) c) where
-        pub rows-stand : Stands c
-        rows-stand =
+        pub rows-reach : InReach c
+        rows-reach =
             let v = p .holds .1 0 0 0 .most in let w = q .holds .1 0 0 .most in let x = r .holds .1 0 .most in let z = r .holds .0 in
             rw (r .cursor) (record { near = omega arith; within = omega arith })
 
-        pub chosen-stand : {d : Cursor} → ChosenPassed (p .count) (q .count) (r .count) d → Stands d
-        chosen-stand s =
-            let v = p .holds .1 0 0 0 .most in let w = q .holds .1 0 0 .most in let x = r .holds .1 0 .most in let y = s .holds .1 .most in let z = s .holds .0 in
+        pub chosen-reach : {d : Cursor} → ChosenPassed (p .count) (q .count) (r .count) d → InReach d
+        chosen-reach s =
+            let v = p .holds .1 0 0 0 .most in let w = q .holds .1 0 0 .most in let x = r .holds .1 0 .most in
+            let y = s .holds .1 .most in let z = s .holds .0 in
             rw (s .cursor) (record { near = omega arith; within = omega arith })
 
   end-of : (c d : Cursor) → endAt (length words) c ≡ Next d → (length words ≤ c .at) × (d ≡ c)
@@ -321,7 +324,13 @@ module _ (words : List ℕ) where
   unfolding sections endAt
   of-sections #V #R #N #S h =
       let all = h .all-words in
-      rw (of-names #V #R #N #S (h .names) (omega arith), of-reads #V #R #N #S (h .reads) (omega arith), of-rows #V #R #N #S (h .rows) (omega arith), of-chosen #V #R #N #S (h .chosen) (omega arith), le-ltb (#V + #R + 4 * #N + #S + 4) (length words) (omega arith))
+      rw (
+        of-names #V #R #N #S (h .names) (omega arith),
+        of-reads #V #R #N #S (h .reads) (omega arith),
+        of-rows #V #R #N #S (h .rows) (omega arith),
+        of-chosen #V #R #N #S (h .chosen) (omega arith),
+        le-ltb (#V + #R + 4 * #N + #S + 4) (length words) (omega arith),
+      )
 
   sound-of : (s : Step) (l : Layout) → answerOf s ≡ Sound l → (d : Cursor) × (s ≡ Next d) × (l ≡ layout (d .variables) (d .reads) (d .rows) (d .count))
   sound-of (Halt r) l e = let z : _≡_ {A = ℕ} 0 1 = cc in absurd (omega arith)

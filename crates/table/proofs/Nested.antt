@@ -3,14 +3,14 @@
 use Prim.Native.Nat.{ℕ, zero, suc, _+_, _*_, _<_, _≤_}
 use native.Mathlib.Omega.{arith}
 use native.Mathlib.Nat.{eq-or-lt-of-le}
-use mathlib.Core.Path.{_≡_, ap}
+use mathlib.Core.Path.{_≡_, ap, subst}
 use mathlib.Core.Bool.{true}
 use mathlib.Core.List.{List}
 use lib.ListN.{length}
 use Rattle.paper.proofs.Bools.{pick}
 use Rattle.table.specs.Rows.{kindOf, endOf, formOf, meets, keepsRules, Nested}
-use Rattle.table.proofs.Meets.{meets-le, Holder, holder-of}
-use Rattle.table.proofs.Rules.{children-meet, kept}
+use Rattle.table.proofs.Meets.{child, meets-le, Holder, holder-of}
+use Rattle.table.proofs.Rules.{star-form, Guards, Says, children-meet, kept}
 
 module _ (rows reads : List ℕ) (#V #N : ℕ) (keep : (i : ℕ) → i < #N → keepsRules rows reads #V #N i ≡ true) where
   children-of : (i : ℕ) → i < #N → (m : ℕ) × (meets rows (endOf rows i) (i + 1) m ≡ true)
@@ -31,6 +31,18 @@ module _ (rows reads : List ℕ) (#V #N : ℕ) (keep : (i : ℕ) → i < #N → 
     where
       same : (c : Holder rows (endOf rows i) (i + 1) j) → c .holder ≡ j → endOf rows j ≤ endOf rows i
       same c e = let z = ap (endOf rows) e in omega arith
+
+  -- a star ends at the next row; so past a guard star stand the other children
+  star-ends : (i : ℕ) → i < #N → kindOf rows i ≡ 1 → endOf rows i ≡ i + 1
+  star-ends i h k = let s = subst (Says rows reads #V i) (star-form (kindOf rows i) k) (kept rows reads #V #N i (keep i h) .says) in s .ends
+
+  pub past-guard : (i m : ℕ) → i < #N → Guards rows i (suc m) → meets rows (endOf rows i) (i + 2) m ≡ true
+  past-guard i m h g =
+      let c = child rows (endOf rows i) (i + 1) m (g .meet) in
+      let n = kept rows reads #V #N i (keep i h) .within in
+      let e = star-ends (i + 1) (omega arith) (g .star) in
+      let q : endOf rows (i + 1) ≡ i + 2 = omega arith in
+      subst (λ k. meets rows (endOf rows i) k m ≡ true) q (c .others)
 
   pub nested : 4 * #N ≤ length rows → #N ≤ 4096 → Nested rows #N
   nested room few = record {

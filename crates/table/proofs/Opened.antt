@@ -66,7 +66,8 @@ module _ (part : List ℕ) (c : Cursor) (low high width : ℕ) where
   pub of-opened : (n : ℕ) → Opened part low high width n → openAt part c low high width ≡ Next (behind c width n)
   unfolding openAt
   of-opened n o =
-      simp (o .word, ne-eqb (length part) 0 (λ e. omega arith), le-ltb n low (o .least), le-ltb high n (o .most), le-ltb (length part - 1) (n * width) (omega arith))
+      let some = ne-eqb (length part) 0 (λ e. omega arith) in
+      simp (o .word, some, le-ltb n low (o .least), le-ltb high n (o .most), le-ltb (length part - 1) (n * width) (omega arith))
 
   module _ (number base : ℕ) (bad : ℕ → ℕ → Bool) (next : Cursor → Step) where
     -- a section that opens, refused at the lowest of its entries that is bad

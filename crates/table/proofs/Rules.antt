@@ -77,8 +77,8 @@ module _ (rows : List ℕ) where
 
   guard-says : (i m : ℕ) → guarded rows i m ≡ true → Guards i m
   guard-says i m h =
-      let (k, m) = and-parts (eqb (kindOf rows (i + 1)) 1) (meets rows (endOf rows i) (i + 1) m) h in
-      record { star = eqb-true (kindOf rows (i + 1)) 1 k; meet = m }
+      let (k, e) = and-parts (eqb (kindOf rows (i + 1)) 1) (meets rows (endOf rows i) (i + 1) m) h in
+      record { star = eqb-true (kindOf rows (i + 1)) 1 k; meet = e }
 
   bound-says : (i m : ℕ) → boundRule rows i m ≡ true → (argOf rows i ≡ 0) × Guards i m
   unfolding boundRule

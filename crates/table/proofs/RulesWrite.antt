@@ -13,7 +13,7 @@ use Rattle.table.specs.Formula.{starAt, childrenAt, nodeAt, formulaAt}
 use Rattle.table.specs.Written.{readsFrom, takenReads, size, width}
 use Rattle.table.proofs.Writes.{RowIs, StarIs, Writes, WritesAll}
 use Rattle.table.proofs.Meets.{child, no-child}
-use Rattle.table.proofs.Nested.{rows-rise}
+use Rattle.table.proofs.Nested.{rows-rise, past-guard}
 use Rattle.table.proofs.Taken.{taken-next, taken-append, taken-star}
 use Rattle.table.proofs.Rules.{KindIs, is-FALSE, is-star, is-candidate, is-conjunction, is-disjunction, is-exists, is-IF, is-none, kind-is, star-form, StarSays, JoinSays, Guards, Says, Kept, kept, root-ends}
 
@@ -98,7 +98,7 @@ module _ (rows reads : List ℕ) (#V #N : ℕ) (keeps : (i : ℕ) → i < #N →
       record {
         star = subst (StarIs rows reads (starAt rows reads (i + 1)) (i + 1)) e (w .writes);
         taken = ap (takenBefore rows) (sym q) ∙ w .taken ∙ (let n = taken-star (starAt rows reads (i + 1)) [] in omega arith);
-        others = subst (λ j. meets rows (endOf rows i) j more ≡ true) q (c .others);
+        others = past-guard rows reads #V #N keeps i more h g;
       }
 
   -- a row of so many children
@@ -128,7 +128,8 @@ module _ (rows reads : List ℕ) (#V #N : ℕ) (keeps : (i : ℕ) → i < #N →
           taken = let d = w .taken in omega arith;
         }
 
-    bound-writes : (more : ℕ) → takenBefore rows (i + 1) ≡ takenBefore rows i → Guards rows i (suc (suc more)) → BoundWrites i (childrenAt rows reads at more (i + 2))
+    bound-writes : (more : ℕ) → takenBefore rows (i + 1) ≡ takenBefore rows i → Guards rows i (suc (suc more))
+        → BoundWrites i (childrenAt rows reads at more (i + 2))
     bound-writes more e s =
         let fs = childrenAt rows reads at more (i + 2) in
         let n = kept-at i h .within in

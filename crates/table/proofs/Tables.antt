@@ -5,18 +5,16 @@ use Prim.Native.Nat.{ℕ, _+_, _*_, _<_}
 use native.Mathlib.Omega.{arith}
 use mathlib.Core.Path.{_≡_, refl, sym, ap, _∙_}
 use mathlib.Core.List.{List, [], _∷_, _++_, map, List·Memᴰ·head, List·Memᴰ·tail}
-use lib.ListN.{length, getD, drop, length-append, length-map}
+use lib.ListN.{length, getD, length-append, length-map}
 use Rattle.paper.specs.Formula.{ℓ, Star, stars}
 use Rattle.table.specs.declared.Layout.{Layout}
 use Rattle.table.specs.declared.Checked.the-variants.{Sound}
-use Rattle.table.specs.First.{first}
-use Rattle.table.specs.Rows.{falls}
-use Rattle.table.specs.Sections.{beyond, checked}
-use Rattle.table.specs.Written.{Table, readWords, readsFrom, takenReads, size, rowsFrom, section, written, Ascend, Within}
+use Rattle.table.specs.Sections.{checked}
+use Rattle.table.specs.Written.{Table, readWords, readsFrom, takenReads, size, rowsFrom, section, written, Within}
 use Rattle.table.specs.Tables.{readsIn, rowsIn, tableIn, layoutOf, SoundExactly, OneTable, WrittenOnce, Understood}
 use Rattle.table.proofs.First.{of-neither}
-use Rattle.table.proofs.Stands.{Stands, stands-whole, stands-room, stands-there, stands-front, stands-back, entry-at}
-use Rattle.table.proofs.Words.{map-back, Each, each-none, each-append, each-map, of-ascend, of-below}
+use Rattle.table.proofs.Stands.{Stands, stands-whole, stands-there, stands-front, stands-back, entry-at}
+use Rattle.table.proofs.Words.{map-back, Each, each-none, each-append, each-map, none-falls, none-beyond}
 use Rattle.table.proofs.Writes.{Writes}
 use Rattle.table.proofs.WrittenRows.{length-rows, written-write}
 use Rattle.table.proofs.WritesRead.{formula-read}
@@ -24,14 +22,6 @@ use Rattle.table.proofs.WritesKeep.{some-rows, keep-rules, take-reads}
 use Rattle.table.proofs.WrittenDepth.{written-depth}
 use Rattle.table.proofs.Laid.{Laid, accepted, laid}
 use Rattle.table.proofs.Understood.{understand}
-
--- entries that ascend or are below a limit, wherever they stand
-module _ {ws ns : List ℕ} {k : ℕ} (h : Stands ws k ns) where
-  none-falls : Ascend ns → first (falls (drop k ws)) (length ns) ≡ length ns
-  none-falls a = of-ascend (drop k ws) (length ns) (stands-room ns h) (rw (h .is) a)
-
-  none-beyond : (limit : ℕ) → Each (λ n. n < limit) ns → first (beyond (drop k ws) limit) (length ns) ≡ length ns
-  none-beyond limit b = of-below (drop k ws) (length ns) (stands-room ns h) limit (rw (h .is) b)
 
 -- what is claimed of the reads of each star is so of all reads
 each-read : (P : ℕ → Type 0) (ss : List Star) → Each (λ s. Each (λ v. P (v .0)) (s .reads)) ss → Each P (readsFrom ss)

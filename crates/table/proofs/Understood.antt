@@ -27,6 +27,7 @@ use Rattle.table.proofs.WrittenDepth.{written-depth}
 use Rattle.table.proofs.RulesWrite.{rules-write-whole}
 use Rattle.table.proofs.Bounds.{FormulaWithin, formula-within}
 use Rattle.table.proofs.Nested.{nested}
+use Rattle.table.proofs.Shaped.{shaped}
 use Rattle.table.proofs.Laid.{Laid}
 
 -- The formula that 64 levels of sound rows hold.
@@ -116,7 +117,8 @@ module _ (words : List ℕ) (l : Layout) (h : Laid words l) where
 
   in-bounds : FormulaWithin (l .variables) (formulaIn words l)
   in-bounds =
-      formula-within (rowsIn words l) (readsIn words l) (l .variables) (l .rows) (h .rows .keep) below (formulaIn words l) 0 0 (omega (arith, held .many)) (held .writes)
+      let n = held .many in
+      formula-within (rowsIn words l) (readsIn words l) (l .variables) (l .rows) (h .rows .keep) below (formulaIn words l) 0 0 (omega arith) (held .writes)
 
   counted : labels (formulaIn words l) ≡ labelsOn 0 (size (formulaIn words l))
   counted = labels-count (rowsIn words l) (readsIn words l) (formulaIn words l) 0 0 (held .writes)
@@ -156,21 +158,25 @@ module _ (words : List ℕ) (l : Layout) (h : Laid words l) where
   cut-whole : words
       ≡ (l .variables ∷ namesIn words l) ++ (l .reads ∷ readsIn words l) ++ (l .rows ∷ take (4 * l .rows) (rowsIn words l)) ++ (l .chosen ∷ chosenIn words l)
   cut-whole =
+      let x = reads-from in
+      let y = rows-from in
+      let z = chosen-from in
       let all = h .all-words in
-      let r = reads-from in
-      let n = rows-from in
-      let s = chosen-from in
-      let a = cut words 0 1 (l .variables + 1) (l .variables) (l .variables) (omega arith) (omega arith) (h .names .counted) (omega arith) in
-      let b = cut words (l .variables + 1) (l .«reads_at») (l .variables + l .reads + 2) (l .reads) (l .reads) (omega arith) (omega arith) (h .reads .counted) (omega arith) in
-      let c = cut words (l .variables + l .reads + 2) (l .«rows_at») (l .variables + l .reads + 4 * l .rows + 3) (4 * l .rows) (l .rows) (omega arith) (omega arith) (h .rows .counted) (omega arith) in
-      let d = cut words (l .variables + l .reads + 4 * l .rows + 3) (l .«chosen_at») (length words) (l .chosen) (l .chosen) (omega arith) (omega arith) (h .chosen .counted) (omega arith) in
+      let v = l .variables in
+      let r = l .reads in
+      let n = l .rows in
+      let a = cut words 0 1 (v + 1) v v (omega arith) (omega arith) (h .names .counted) (omega arith) in
+      let b = cut words (v + 1) (l .«reads_at») (v + r + 2) r r (omega arith) (omega arith) (h .reads .counted) (omega arith) in
+      let c = cut words (v + r + 2) (l .«rows_at») (v + r + 4 * n + 3) (4 * n) n (omega arith) (omega arith) (h .rows .counted) (omega arith) in
+      let d =
+      cut words (v + r + 4 * n + 3) (l .«chosen_at») (length words) (l .chosen) (l .chosen) (omega arith) (omega arith) (h .chosen .counted) (omega arith) in
       a ∙ rw (b, c, d, drop-length words, append-nil (chosenIn words l)) (simp append-assoc)
 
   words-are : words ≡ written (tableIn words l)
   unfolding written
   words-are =
-      cut-whole
-      ∙ sym (rw (held .reads-are, length-names, length-reads, held .many, ← held .rows-are, map-back ℓ (λ k. k .0) (λ w. refl) (chosenIn words l), length-chosen))
+      let numbers = map-back ℓ (λ k. k .0) (λ w. refl) (chosenIn words l) in
+      cut-whole ∙ sym (rw (held .reads-are, length-names, length-reads, held .many, ← held .rows-are, numbers, length-chosen))
 
   laid-out : l ≡ layoutOf (tableIn words l)
   laid-out =
@@ -196,6 +202,7 @@ module _ (words : List ℕ) (l : Layout) (h : Laid words l) where
     chosen-there = length-chosen;
     reads-below = λ k b. below _ (word-mem (readsIn words l) k (omega (arith, length-reads)));
     rules-kept = h .rows .keep;
+    shaped = shaped (rowsIn words l) (readsIn words l) (l .variables) (l .rows) (h .rows .keep) rows-there (h .rows .most);
     nested = nested (rowsIn words l) (readsIn words l) (l .variables) (l .rows) (h .rows .keep) rows-there (h .rows .most);
     chosen-ascend = λ k b. of-rising 0 (chosenIn words l) chosen-rise k (omega (arith, length-chosen));
     chosen-below = λ k b. chosen-below _ (word-mem (chosenIn words l) k (omega (arith, length-chosen)));

@@ -5,7 +5,7 @@ use native.Mathlib.Omega.{arith}
 use mathlib.Core.Path.{_≡_, refl, sym, ap₂, subst, _∙_}
 use mathlib.Core.Bool.{false}
 use mathlib.Core.List.{List, [], _∷_, _++_, map, List·Memᴰ, List·Memᴰ·head, List·Memᴰ·tail, List·Memᴰ·cases-cons, List·Memᴰ·not-nil, List·Memᴰ·append-cases}
-use lib.ListN.{length, getD, take}
+use lib.ListN.{length, getD, take, drop}
 use lib.Seq.{length-take-le, getD-take}
 use lib.Dec.{leb}
 use borrow.Author.Tests.{leb-false, lt-leb, lt-ltb}
@@ -17,6 +17,7 @@ use Rattle.table.specs.Rows.{falls}
 use Rattle.table.specs.Sections.{beyond}
 use Rattle.table.specs.Written.{Ascend}
 use Rattle.table.proofs.First.{first-none, first-all}
+use Rattle.table.proofs.Stands.{Stands, stands-room}
 
 -- mapped forth and back
 pub map-back : {A B : Type 0} (f : A → B) (g : B → A) → ((a : A) → g (f a) ≡ a) → (xs : List A) → map g (map f xs) ≡ xs
@@ -107,3 +108,11 @@ module _ (ws : List ℕ) (m : ℕ) (h : m ≤ length ws) where
       let n = length-take-le m ws h in
       let j : k < length (take m ws) = omega arith in
       lt-leb limit (getD ws k 0) (subst (λ w. w < limit) (taken-same k j) (b _ (word-mem (take m ws) k j))))
+
+-- entries that ascend or are below a limit, wherever they stand
+module _ {ws ns : List ℕ} {k : ℕ} (h : Stands ws k ns) where
+  pub none-falls : Ascend ns → first (falls (drop k ws)) (length ns) ≡ length ns
+  none-falls a = of-ascend (drop k ws) (length ns) (stands-room ns h) (rw (h .is) a)
+
+  pub none-beyond : (limit : ℕ) → Each (λ n. n < limit) ns → first (beyond (drop k ws) limit) (length ns) ≡ length ns
+  none-beyond limit b = of-below (drop k ws) (length ns) (stands-room ns h) limit (rw (h .is) b)

@@ -6,18 +6,19 @@ use native.Mathlib.Nat.{eq-or-lt-of-le}
 use mathlib.Core.Path.{_≡_, refl, sym, ap, _∙_}
 use mathlib.Core.Bool.{Bool, true, false, cond}
 use mathlib.Core.List.{List, [], _∷_, _++_, List·Memᴰ, List·Memᴰ·head, Memᴰ·append-left, Memᴰ·append-right}
-use lib.ListN.{length, take, drop, length-append, length-map, length-take}
+use lib.ListN.{length, drop, length-append, length-map}
 use lib.Dec.{ltb, leb, eqb}
 use borrow.Author.Tests.{lt-ltb, le-leb, eq-eqb, eqb-true}
 use Rattle.paper.specs.Formula.{Star, Candidate, Formula, Formulas, FALSE, test, candidate, conjunction, disjunction, exists, IF, only, _⨾_, labels, labelsOf, stars, starsOf, candidates, candidatesOf}
 use Rattle.paper.proofs.Bools.{both, pick}
 use Rattle.table.specs.Rows.{kindOf, argOf, endOf, fromOf, formOf, meets, ascend, takes, takenBefore, guarded, falseRule, starRule, candidateRule, joinRule, boundRule, keepsForm, endsWithin, keepsRules}
 use Rattle.table.specs.Written.{readWords, readsFrom, takenReads, size, width, Ascend}
-use Rattle.table.proofs.Words.{of-ascend}
+use Rattle.table.proofs.Stands.{stands-room}
+use Rattle.table.proofs.Words.{none-falls}
 use Rattle.table.proofs.Writes.{RowIs, StarIs, Writes, WritesAll}
 use Rattle.table.proofs.Meets.{of-child, of-no-child}
 use Rattle.table.proofs.Taken.{taken-next, taken-star, taken-append}
-use Rattle.table.proofs.WritesWords.{star-words}
+use Rattle.table.proofs.WritesWords.{star-stands}
 use Rattle.table.proofs.WritesRead.{some-children, end-is-behind}
 
 pub some-rows : (f : Formula) → 0 < size f
@@ -28,13 +29,6 @@ some-rows (conjunction l fs) = omega arith
 some-rows (disjunction l fs) = omega arith
 some-rows (exists l s f) = omega arith
 some-rows (IF l s f g) = omega arith
-
--- words that strictly ascend, by the test
-pub ascends : (ws ns : List ℕ) → take (length ns) ws ≡ ns → Ascend ns → ascend ws (length ns) ≡ true
-unfolding ascend
-ascends ws ns e r =
-    both (leb (length ns) (length ws)) _ (le-leb (length ns) (length ws) (omega (arith, length-take (length ns) ws, ap length e)))
-    (eq-eqb _ _ (of-ascend ws (length ns) (omega (arith, length-take (length ns) ws, ap length e)) (rw e r)))
 
 module _ (rows reads : List ℕ) where
   -- the children meet the end of the last
@@ -56,13 +50,13 @@ module _ (rows reads : List ℕ) where
       (rw e (of-child rows end (i + 1) m {end = i + 2} (let z = w .row-is .end-is in omega arith) (omega arith) b r))
 
   star-keeps : (s : Star) (i t : ℕ) → StarIs rows reads s i t → Ascend (readWords s) → starRule rows reads i ≡ true
-  unfolding starRule
+  unfolding starRule ascend
   star-keeps s i t w a =
+      let h = star-stands rows reads s i t w in
+      let n = length (readWords s) in
       both (eqb (endOf rows i) (i + 1)) _ (eq-eqb _ _ (w .row-is .end-is))
-      (rw (w .row-is .from-is, w .row-is .arg-is, ← length-map (s .reads) (λ v. v .0)) (ascends (drop t reads) (readWords s) read-there a))
-    where
-      read-there : take (length (readWords s)) (drop t reads) ≡ readWords s
-      read-there = rw (length-map (s .reads) (λ v. v .0)) (sym (star-words rows reads s i t w))
+      (rw (w .row-is .from-is, w .row-is .arg-is, ← length-map (s .reads) (λ v. v .0))
+      (both (leb n (length (drop t reads))) _ (le-leb _ _ (stands-room (readWords s) h)) (eq-eqb _ _ (none-falls h a))))
 
   false-keeps : {i t : ℕ} → RowIs rows reads i 0 0 (i + 1) t → falseRule rows i ≡ true
   unfolding falseRule

@@ -93,11 +93,12 @@ module _ (rows reads : List ℕ) where
   pub star-words : (s : Star) (i t : ℕ) → StarIs rows reads s i t → readWords s ≡ take (length (s .reads)) (drop t reads)
   star-words s i t w = ap (map (λ v. v .0)) (w .reads-are) ∙ map-back 𝓋 (λ v. v .0) (λ w. refl) (take (length (s .reads)) (drop t reads))
 
+  pub star-stands : (s : Star) (i t : ℕ) → StarIs rows reads s i t → Stands reads t (readWords s)
+  star-stands s i t w = record { is = rw (length-map (s .reads) (λ v. v .0)) (sym (star-words s i t w)) }
+
   after-reads : (s : Star) (i t : ℕ) (us : List ℕ) → StarIs rows reads s i t → Stands reads (t + length (s .reads)) us
       → Stands reads t (readWords s ++ us)
-  after-reads s i t us w next =
-      let n = length-map (s .reads) (λ v. v .0) in
-      stands-joined (readWords s) us (ap (λ k. t + k) n) (record { is = rw n (sym (star-words s i t w)) }) next
+  after-reads s i t us w next = stands-joined (readWords s) us (ap (λ k. t + k) (length-map (s .reads) (λ v. v .0))) (star-stands s i t w) next
 
   both-reads : (t : ℕ) (ss us : List Star) → Stands reads t (readsFrom ss) → Stands reads (t + length (readsFrom ss)) (readsFrom us)
       → Stands reads t (readsFrom (ss ++ us))

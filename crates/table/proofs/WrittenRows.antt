@@ -72,7 +72,11 @@ module _ (rows reads : List ℕ) (n : ℕ) where
     first-row = (label-at i n (h .named), row-here i kind arg end t (stands-front (rowWords kind arg end t) ws (h .words)))
 
     then-rows : Here (i + 1) t ws rs ls
-    then-rows = record { words = stands-back (rowWords kind arg end t) ws (omega arith) (h .words); taken = h .taken; named = stands-back (l ∷ []) ls refl (h .named) }
+    then-rows = record {
+      words = stands-back (rowWords kind arg end t) ws (omega arith) (h .words);
+      taken = h .taken;
+      named = stands-back (l ∷ []) ls refl (h .named);
+    }
 
   -- the first star, and what follows it
   module _ {i t : ℕ} (s : Star) (rs : List ℕ) {ws : List ℕ} {ls : List Label} (h : Here i t (starWords s i t ++ ws) (readWords s ++ rs) (s .label ∷ ls)) where
@@ -81,7 +85,9 @@ module _ (rows reads : List ℕ) (n : ℕ) where
         record {
           label-is = label-at i n (h .named);
           row-is = row-here i 1 (length (s .reads)) (i + 1) t (stands-front (starWords s i t) ws (h .words));
-          reads-are = rw (← length-map (s .reads) (λ v. v .0), stands-front (readWords s) rs (h .taken) .is) (sym (map-back (λ v. v .0) 𝓋 (λ v. refl) (s .reads)));
+          reads-are =
+              rw (← length-map (s .reads) (λ v. v .0), stands-front (readWords s) rs (h .taken) .is)
+              (sym (map-back (λ v. v .0) 𝓋 (λ v. refl) (s .reads)));
         }
 
     after-star : {j : ℕ} → i + 1 ≡ j → Here j (t + length (s .reads)) ws rs ls

@@ -3,6 +3,6 @@ pub mod Rows
 pub mod Sections
 pub mod Formula
 pub mod Written
+pub mod Walk
 pub mod Tables
 pub mod Example
-pub mod Walk

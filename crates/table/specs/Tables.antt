@@ -12,6 +12,7 @@ use Rattle.table.specs.declared.Checked.the-variants.{Sound}
 use Rattle.table.specs.Rows.{keepsRules, Nested}
 use Rattle.table.specs.Sections.{layout, checked}
 use Rattle.table.specs.Formula.{formulaAt}
+use Rattle.table.specs.Walk.{Shaped}
 use Rattle.table.specs.Written.{Table, written, Within, takenReads, size, depth, labelsOn}
 
 -- the parts of words laid out so: names, reads, rows, strategy
@@ -75,6 +76,7 @@ pub record Understood (words : List ℕ) (l : Layout) : Type 0 where
   pub reads-below : (k : ℕ) → k < l .reads → getD (readsIn words l) k 0 < l .variables
   pub rules-kept : (i : ℕ) → i < l .rows → keepsRules (rowsIn words l) (readsIn words l) (l .variables) (l .rows) i ≡ true
   pub nested : Nested (rowsIn words l) (l .rows)
+  pub shaped : Shaped (rowsIn words l) (l .rows)
   pub chosen-ascend : (k : ℕ) → suc k < l .chosen → getD (chosenIn words l) k 0 < getD (chosenIn words l) (suc k) 0
   pub chosen-below : (k : ℕ) → k < l .chosen → getD (chosenIn words l) k 0 < l .rows
   -- the formula

@@ -28,14 +28,19 @@ refused-requires-2 c κs = search needs
 
 returns-2 : tie.Need-returns-2
 unfolding openAt
-returns-2 c = simp (c .refused2 .ensures, ne-eqb _ _ (c .before .before .before .before .if1 .left), ← c .before .before .wide .ensures, lt-ltb _ _ (c .before .if2 .taken))
+returns-2 c =
+    let s = c .before .before in
+    simp (c .refused2 .ensures, ne-eqb _ _ (s .before .before .if1 .left), ← s .wide .ensures, lt-ltb _ _ (c .before .if2 .taken))
 
 refused-requires-3 : tie.Need-refused-requires-3
 refused-requires-3 c κs = search needs
 
 returns-3 : tie.Need-returns-3
 unfolding openAt
-returns-3 c = simp (c .refused3 .ensures, ne-eqb _ _ (c .before .before .before .before .before .if1 .left), ← c .before .before .before .wide .ensures, le-ltb _ _ (c .before .before .if2 .left), lt-ltb _ _ (c .before .if3 .taken))
+returns-3 c =
+    let s = c .before .before .before in
+    let low = le-ltb _ _ (c .before .before .if2 .left) in
+    simp (c .refused3 .ensures, ne-eqb _ _ (s .before .before .if1 .left), ← s .wide .ensures, low, lt-ltb _ _ (c .before .if3 .taken))
 
 mul-words : tie.Need-mul-words
 mul-words c = omega (arith, mul-le-mul-right (c .before .before .before .before .before .before .args .width) (c .if3 .left))
@@ -51,7 +56,11 @@ refused-requires-4 c κs = omega (arith, mul-le-mul-right (c .before .before .be
 
 returns-4 : tie.Need-returns-4
 unfolding openAt
-returns-4 c = simp (c .refused4 .ensures, ne-eqb _ _ (c .before .before .before .before .before .before .if1 .left), ← c .before .before .before .before .wide .ensures, le-ltb _ _ (c .before .before .before .if2 .left), le-ltb _ _ (c .before .before .if3 .left), lt-ltb _ _ (c .before .if4 .taken))
+returns-4 c =
+    let s = c .before .before .before .before in
+    let low = le-ltb _ _ (c .before .before .before .if2 .left) in
+    let high = le-ltb _ _ (c .before .before .if3 .left) in
+    simp (c .refused4 .ensures, ne-eqb _ _ (s .before .before .if1 .left), ← s .wide .ensures, low, high, lt-ltb _ _ (c .before .if4 .taken))
 
 add-t14 : tie.Need-add-t14
 add-t14 c = search needs
@@ -61,7 +70,11 @@ add-t16 c = search needs
 
 returns-5 : tie.Need-returns-5
 unfolding openAt
-returns-5 c = simp (ne-eqb _ _ (c .before .before .before .before .before .if1 .left), ← c .before .before .before .wide .ensures, le-ltb _ _ (c .before .before .if2 .left), le-ltb _ _ (c .before .if3 .left), le-ltb _ _ (c .if4 .left))
+returns-5 c =
+    let s = c .before .before .before in
+    let low = le-ltb _ _ (c .before .before .if2 .left) in
+    let high = le-ltb _ _ (c .before .if3 .left) in
+    simp (ne-eqb _ _ (s .before .before .if1 .left), ← s .wide .ensures, low, high, le-ltb _ _ (c .if4 .left))
 
 pub open-spec : {M : Type 1} → statement M
 open-spec =

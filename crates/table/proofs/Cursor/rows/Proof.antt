@@ -49,8 +49,8 @@ module _ (c : tie.After-reads-taken) where
   taken : c .reads-taken .result ≡ takenBefore (drop 1 (part (opening searched))) (opening searched .opened .given .0 .0 .count)
   taken = simp rest at (c .reads-taken .ensures)
 
-  keep : let s = opening searched .before .before .before .before .before .args in let n = opening searched .opened .given .0 .0 .count in
-      (i : ℕ) → i < n → keepsRules (take (length (part (opening searched)) - 1) (drop 1 (part (opening searched)))) (now (s .reads)) (s .self .variables) n i ≡ true
+  keep : let o = opening searched in let s = o .before .before .before .before .before .args in let n = o .opened .given .0 .0 .count in
+      (i : ℕ) → i < n → keepsRules (take (length (part o) - 1) (drop 1 (part o))) (now (s .reads)) (s .self .variables) n i ≡ true
   keep = none-broken _ _ _ _ _ (searched .first-broken .ensures) (c .before .if1 .left)
 
 module _ (c : tie.After-first-deep) where
@@ -135,7 +135,8 @@ returns-4 c =
     let s = counted d in
     let f = searched s in
     c .refused3 .ensures ∙ ap (halt 8) (c .before .wide2 .ensures)
-    ∙ sym (some-deep _ _ _ _ (came (opening f)) _ (lowest f) (s .before .if1 .left) _ (taken s) (d .before .if2 .left) _ (lowest-deep d) (c .before .before .if3 .taken))
+    ∙ sym (some-deep _ _ _ _ (came (opening f)) _ (lowest f) (s .before .if1 .left) _ (taken s) (d .before .if2 .left) _ (lowest-deep d)
+    (c .before .before .if3 .taken))
 
 returns-5 : tie.Need-returns-5
 returns-5 c =

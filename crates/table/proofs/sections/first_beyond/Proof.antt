@@ -30,7 +30,9 @@ wide-requires : tie.Need-wide-requires Inv-loop μ-loop
 wide-requires c κs = search needs
 
 returns : tie.Need-returns Inv-loop μ-loop
-returns c = sym (first-found _ _ _ (c .before .before .before .before .loop .inv .1) (omega arith) (simp (← c .before .wide .ensures, le-leb _ _ (c .if1 .taken))))
+returns c =
+    let inv = c .before .before .before .before .loop .inv in
+    sym (first-found _ _ _ (inv .1) (omega arith) (simp (← c .before .wide .ensures, le-leb _ _ (c .if1 .taken))))
 
 add-k : tie.Need-add-k Inv-loop μ-loop
 add-k c = search needs
@@ -39,7 +41,9 @@ loop-less : tie.Need-loop-less Inv-loop μ-loop
 loop-less c = search needs
 
 loop-again : tie.Need-loop-again Inv-loop μ-loop
-loop-again c = (omega arith, below-more _ _ (c .before .before .before .before .loop .inv .1) (simp (← c .before .wide .ensures, lt-leb _ _ (c .if1 .left))))
+loop-again c =
+    let inv = c .before .before .before .before .loop .inv in
+    (omega arith, below-more _ _ (inv .1) (simp (← c .before .wide .ensures, lt-leb _ _ (c .if1 .left))))
 
 returns-2 : tie.Need-returns-2 Inv-loop μ-loop
 returns-2 c = sym (first-none _ _ (λ j h. c .before .loop .inv .1 j (omega arith)))

@@ -18,7 +18,9 @@ returns : tie.Need-returns
 returns c = simp (← c .before .wide .ensures, le-leb _ _ (c .if1 .taken))
 
 returns-2 : tie.Need-returns-2
-returns-2 c = simp (← c .before .before .wide .ensures, lt-leb _ _ (c .before .if1 .left), le-ltb 0 (c .before .before .before .before .before .args .k) (omega arith))
+returns-2 c =
+    let s = c .before .before in
+    simp (← s .wide .ensures, lt-leb _ _ (c .before .if1 .left), le-ltb 0 (s .before .before .before .args .k) (omega arith))
 
 sub-result : tie.Need-sub-result
 sub-result c = search needs
@@ -30,7 +32,9 @@ shared-slice-read-result-2 : tie.Need-shared-slice-read-result-2
 shared-slice-read-result-2 c = search needs
 
 returns-3 : tie.Need-returns-3
-returns-3 c = simp (← c .before .before .before .before .wide .ensures, lt-leb _ _ (c .before .before .before .if1 .left), lt-ltb 0 (c .before .before .before .before .before .before .before .args .k) (omega arith))
+returns-3 c =
+    let s = c .before .before .before .before in
+    simp (← s .wide .ensures, lt-leb _ _ (c .before .before .before .if1 .left), lt-ltb 0 (s .before .before .before .args .k) (omega arith))
 
 pub is-unfit-spec : {M : Type 1} → statement M
 is-unfit-spec =

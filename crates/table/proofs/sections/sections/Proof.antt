@@ -1,41 +1,73 @@
 -- Each section passes its cursor to the next, as in the definition; the part from the cursor on is what the section is lent.
+use Prim.Native.Nat.{ℕ, _+_}
 use native.Mathlib.Omega.{arith}
+use mathlib.Core.List.{List}
 use mathlib.Core.Path.{_≡_, sym, ap, _∙_}
 use denote.Ref.{now}
 use Rattle.table.specs.declared.Cursor.{Cursor}
 use Rattle.table.specs.declared.Step.the-variants.{Next}
 use Rattle.table.specs.Sections.{start, variablesAt, readsAt, rowsAt, strategyAt, partAt, readsOf, sections}
 use Rattle.table.proofs.Rules.{rest}
-use Rattle.table.proofs.Laid.{NamesPassed, ReadsPassed, RowsPassed, names-of, reads-of, rows-of, chosen-of, names-stand, reads-stand, reads-between, between-reads, length-between, rows-stand, chosen-stand}
+use Rattle.table.proofs.Laid.{NamesPassed, ReadsPassed, RowsPassed, InReach, names-of, reads-of, rows-of, chosen-of, names-reach, reads-reach, reads-between, between-reads, length-between, rows-reach, chosen-reach}
 use borrow.Author.Needs.{needs}
 use Rattle.table.proofs.sections.sections.Statement.{statement}
 use Rattle.table.proofs.sections.sections.Tie as tie
 
--- the answers of the sections that passed
-came-1 : (c : tie.After-first) → variablesAt (now (c .before .before .before .before .before .args .words)) start ≡ Next (c .first .given .0 .0)
-came-1 c = ap (variablesAt _) (sym (c .before .before .before .new .ensures)) ∙ sym (c .before .before .variables .ensures) ∙ c .first .given .1
+-- the answers of the sections that passed, and how far their cursors stand
+module _ (c : tie.After-first) where
+  abbrev words : List ℕ
+  words = now (c .before .before .before .before .before .args .words)
 
-one : (c : tie.After-first) → NamesPassed (now (c .before .before .before .before .before .args .words)) (c .first .given .0 .0)
-one c = names-of _ _ (came-1 c)
+  came-1 : variablesAt words start ≡ Next (c .first .given .0 .0)
+  came-1 = ap (variablesAt _) (sym (c .before .before .before .new .ensures)) ∙ sym (c .before .before .variables .ensures) ∙ c .first .given .1
 
-came-2 : (c : tie.After-second) → let a = c .before .before .before .before .before .first .given .0 .0 in readsAt (partAt (now (c .before .before .before .before .before .before .before .before .before .before .args .words)) a) a ≡ Next (c .second .given .0 .0)
-came-2 c = sym (simp rest at (c .before .before .reads .ensures)) ∙ c .second .given .1
+  one : NamesPassed words (c .first .given .0 .0)
+  one = names-of _ _ came-1
 
-two : (c : tie.After-second) → ReadsPassed (now (c .before .before .before .before .before .before .before .before .before .before .args .words)) (one (c .before .before .before .before .before) .count) (c .second .given .0 .0)
-two c = reads-of _ _ _ _ (one (c .before .before .before .before .before) .cursor) (came-2 c)
+  reach-1 : InReach words (c .first .given .0 .0)
+  reach-1 = names-reach _ one
 
-came-3 : (c : tie.After-third) → let b = c .before .before .before .before .before .before .second .given .0 .0 in let ws = now (c .before .before .before .before .before .before .before .before .before .before .before .before .before .before .before .before .args .words) in
-    rowsAt (partAt ws b) (readsOf ws b) b ≡ Next (c .third .given .0 .0)
-came-3 c =
-    let s = c .before .before .before .before .before .before in
-    sym (simp (rest, between-reads _ (one (s .before .before .before .before .before)) (two s)) at (c .before .before .rows .ensures)) ∙ c .third .given .1
+module _ (c : tie.After-second) where
+  abbrev first-of : tie.After-first
+  first-of = c .before .before .before .before .before
 
-three : (c : tie.After-third)
-    → RowsPassed (now (c .before .before .before .before .before .before .before .before .before .before .before .before .before .before .before .before .args .words)) (one (c .before .before .before .before .before .before .before .before .before .before .before) .count) (two (c .before .before .before .before .before .before) .count) (c .third .given .0 .0)
-three c = rows-of _ _ _ _ _ (two (c .before .before .before .before .before .before) .cursor) (came-3 c)
+  came-2 : let a = first-of .first .given .0 .0 in readsAt (partAt (words first-of) a) a ≡ Next (c .second .given .0 .0)
+  came-2 = sym (simp rest at (c .before .before .reads .ensures)) ∙ c .second .given .1
 
-came-4 : (c : tie.After-fourth) → let d = c .before .before .before .before .before .third .given .0 .0 in strategyAt (partAt (now (c .before .before .before .before .before .before .before .before .before .before .before .before .before .before .before .before .before .before .before .before .before .args .words)) d) d ≡ Next (c .fourth .given .0 .0)
-came-4 c = sym (simp rest at (c .before .before .strategy .ensures)) ∙ c .fourth .given .1
+  two : ReadsPassed (words first-of) (one first-of .count) (c .second .given .0 .0)
+  two = reads-of _ _ _ _ (one first-of .cursor) came-2
+
+  reach-2 : InReach (words first-of) (c .second .given .0 .0)
+  reach-2 = reads-reach _ (one first-of) two
+
+  between : c .second .given .0 .0 .at ≡ first-of .first .given .0 .0 .at + 1 + c .second .given .0 .0 .reads
+  between = reads-between _ (one first-of) two
+
+module _ (c : tie.After-third) where
+  abbrev second-of : tie.After-second
+  second-of = c .before .before .before .before .before .before
+
+  came-3 : let ws = words (first-of second-of) in let b = second-of .second .given .0 .0 in rowsAt (partAt ws b) (readsOf ws b) b ≡ Next (c .third .given .0 .0)
+  came-3 = sym (simp (rest, between-reads _ (one (first-of second-of)) (two second-of)) at (c .before .before .rows .ensures)) ∙ c .third .given .1
+
+  three : RowsPassed (words (first-of second-of)) (one (first-of second-of) .count) (two second-of .count) (c .third .given .0 .0)
+  three = rows-of _ _ _ _ _ (two second-of .cursor) came-3
+
+  reach-3 : InReach (words (first-of second-of)) (c .third .given .0 .0)
+  reach-3 = rows-reach _ (one (first-of second-of)) (two second-of) three
+
+module _ (c : tie.After-fourth) where
+  abbrev third-of : tie.After-third
+  third-of = c .before .before .before .before .before
+
+  came-4 : let d = third-of .third .given .0 .0 in strategyAt (partAt (words (first-of (second-of third-of))) d) d ≡ Next (c .fourth .given .0 .0)
+  came-4 = sym (simp rest at (c .before .before .strategy .ensures)) ∙ c .fourth .given .1
+
+  reach-4 : InReach (words (first-of (second-of third-of))) (c .fourth .given .0 .0)
+  reach-4 =
+      let t = third-of in
+      let s = second-of t in
+      chosen-reach _ (one (first-of s)) (two s) (three t) (chosen-of _ _ _ _ _ _ (three t .cursor) came-4)
 
 new-requires : tie.Need-new-requires
 new-requires c κs = search needs
@@ -54,19 +86,19 @@ unfolding sections
 returns c = simp (← c .before .before .before .new .ensures, ← c .before .before .variables .ensures, c .enum-told .given .1)
 
 mul-reads : tie.Need-mul-reads
-mul-reads c = let s = names-stand _ (one (c .before)) in omega arith
+mul-reads c = let s = reach-1 (c .before) in omega arith
 
 sub-reads : tie.Need-sub-reads
-sub-reads c = let s = names-stand _ (one (c .before)) in omega arith
+sub-reads c = let s = reach-1 (c .before) in omega arith
 
 part-reads-start : tie.Need-part-reads-start
-part-reads-start c = let s = names-stand _ (one (c .before)) in omega arith
+part-reads-start c = let s = reach-1 (c .before) in omega arith
 
 part-reads-end : tie.Need-part-reads-end
 part-reads-end c = search needs
 
 reads-requires : tie.Need-reads-requires
-reads-requires c κs = let s = names-stand _ (one (c .before .before)) in omega arith
+reads-requires c κs = reach-1 (c .before .before) .near
 
 enum-known-second : tie.Need-enum-known-second
 enum-known-second c = search needs
@@ -76,37 +108,41 @@ enum-told-2 c = search needs
 
 returns-2 : tie.Need-returns-2
 unfolding sections
-returns-2 c = let f = simp rest at (c .before .before .reads .ensures) in rw (came-1 (c .before .before .before .before .before)) (simp (← f, c .enum-told2 .given .1))
+returns-2 c =
+    let f = simp rest at (c .before .before .reads .ensures) in
+    rw (came-1 (c .before .before .before .before .before)) (simp (← f, c .enum-told2 .given .1))
 
 mul-rows : tie.Need-mul-rows
-mul-rows c = let s = reads-stand _ (one (c .before .before .before .before .before .before)) (two (c .before)) in omega arith
+mul-rows c = let s = reach-2 (c .before) in omega arith
 
 sub-rows : tie.Need-sub-rows
-sub-rows c = let s = reads-stand _ (one (c .before .before .before .before .before .before)) (two (c .before)) in omega arith
+sub-rows c = let s = reach-2 (c .before) in omega arith
 
 part-rows-start : tie.Need-part-rows-start
-part-rows-start c = let s = reads-stand _ (one (c .before .before .before .before .before .before)) (two (c .before)) in omega arith
+part-rows-start c = let s = reach-2 (c .before) in omega arith
 
 part-rows-end : tie.Need-part-rows-end
 part-rows-end c = search needs
 
 add-rows : tie.Need-add-rows
-add-rows c = let s = names-stand _ (one (c .before .before .before .before .before .before .before)) in omega arith
+add-rows c = let s = reach-1 (first-of (c .before .before)) in omega arith
 
 mul-rows-2 : tie.Need-mul-rows-2
-mul-rows-2 c = let s = names-stand _ (one (c .before .before .before .before .before .before .before)) in omega arith
+mul-rows-2 c = let s = reach-1 (first-of (c .before .before)) in omega arith
 
 sub-rows-2 : tie.Need-sub-rows-2
-sub-rows-2 c = let e = reads-between _ (one (c .before .before .before .before .before .before .before)) (two (c .before .before)) in omega arith
+sub-rows-2 c = let e = between (c .before .before) in omega arith
 
 part-rows-start-2 : tie.Need-part-rows-start-2
-part-rows-start-2 c = let e = reads-between _ (one (c .before .before .before .before .before .before .before)) (two (c .before .before)) in omega arith
+part-rows-start-2 c = let e = between (c .before .before) in omega arith
 
 part-rows-end-2 : tie.Need-part-rows-end-2
-part-rows-end-2 c = let s = reads-stand _ (one (c .before .before .before .before .before .before .before)) (two (c .before .before)) in omega arith
+part-rows-end-2 c = let s = reach-2 (c .before .before) in omega arith
 
 rows-requires : tie.Need-rows-requires
-rows-requires c κs = let s = reads-stand _ (one (c .before .before .before .before .before .before .before .before)) (two (c .before .before .before)) in (s .near, length-between _ (one (c .before .before .before .before .before .before .before .before)) (two (c .before .before .before)))
+rows-requires c κs =
+    let s = c .before .before .before in
+    (reach-2 s .near, length-between _ (one (first-of s)) (two s))
 
 enum-known-third : tie.Need-enum-known-third
 enum-known-third c = search needs
@@ -116,22 +152,25 @@ enum-told-3 c = search needs
 
 returns-3 : tie.Need-returns-3
 unfolding sections
-returns-3 c = let f = simp (rest, between-reads _ (one (c .before .before .before .before .before .before .before .before .before .before .before)) (two (c .before .before .before .before .before .before))) at (c .before .before .rows .ensures) in rw (came-1 (c .before .before .before .before .before .before .before .before .before .before .before), came-2 (c .before .before .before .before .before .before)) (simp (← f, c .enum-told3 .given .1))
+returns-3 c =
+    let s = c .before .before .before .before .before .before in
+    let f = simp (rest, between-reads _ (one (first-of s)) (two s)) at (c .before .before .rows .ensures) in
+    rw (came-1 (first-of s), came-2 s) (simp (← f, c .enum-told3 .given .1))
 
 mul-strategy : tie.Need-mul-strategy
-mul-strategy c = let s = rows-stand _ (one (c .before .before .before .before .before .before .before .before .before .before .before .before)) (two (c .before .before .before .before .before .before .before)) (three (c .before)) in omega arith
+mul-strategy c = let s = reach-3 (c .before) in omega arith
 
 sub-strategy : tie.Need-sub-strategy
-sub-strategy c = let s = rows-stand _ (one (c .before .before .before .before .before .before .before .before .before .before .before .before)) (two (c .before .before .before .before .before .before .before)) (three (c .before)) in omega arith
+sub-strategy c = let s = reach-3 (c .before) in omega arith
 
 part-strategy-start : tie.Need-part-strategy-start
-part-strategy-start c = let s = rows-stand _ (one (c .before .before .before .before .before .before .before .before .before .before .before .before)) (two (c .before .before .before .before .before .before .before)) (three (c .before)) in omega arith
+part-strategy-start c = let s = reach-3 (c .before) in omega arith
 
 part-strategy-end : tie.Need-part-strategy-end
 part-strategy-end c = search needs
 
 strategy-requires : tie.Need-strategy-requires
-strategy-requires c κs = let s = rows-stand _ (one (c .before .before .before .before .before .before .before .before .before .before .before .before .before)) (two (c .before .before .before .before .before .before .before .before)) (three (c .before .before)) in omega arith
+strategy-requires c κs = reach-3 (c .before .before) .near
 
 enum-known-fourth : tie.Need-enum-known-fourth
 enum-known-fourth c = search needs
@@ -141,14 +180,22 @@ enum-told-4 c = search needs
 
 returns-4 : tie.Need-returns-4
 unfolding sections
-returns-4 c = let f = simp rest at (c .before .before .strategy .ensures) in rw (came-1 (c .before .before .before .before .before .before .before .before .before .before .before .before .before .before .before .before), came-2 (c .before .before .before .before .before .before .before .before .before .before .before), came-3 (c .before .before .before .before .before)) (simp (← f, c .enum-told4 .given .1))
+returns-4 c =
+    let t = c .before .before .before .before .before in
+    let s = second-of t in
+    let f = simp rest at (c .before .before .strategy .ensures) in
+    rw (came-1 (first-of s), came-2 s, came-3 t) (simp (← f, c .enum-told4 .given .1))
 
 end-requires : tie.Need-end-requires
-end-requires c κs = chosen-stand _ (one (c .before .before .before .before .before .before .before .before .before .before .before .before .before .before .before .before .before)) (two (c .before .before .before .before .before .before .before .before .before .before .before .before)) (three (c .before .before .before .before .before .before)) (chosen-of _ _ _ _ _ _ (three (c .before .before .before .before .before .before) .cursor) (came-4 (c .before))) .near
+end-requires c κs = reach-4 (c .before) .near
 
 returns-5 : tie.Need-returns-5
 unfolding sections
-returns-5 c = rw (came-1 (c .before .before .before .before .before .before .before .before .before .before .before .before .before .before .before .before .before .before), came-2 (c .before .before .before .before .before .before .before .before .before .before .before .before .before), came-3 (c .before .before .before .before .before .before .before), came-4 (c .before .before)) (c .end .ensures)
+returns-5 c =
+    let d = c .before .before in
+    let t = third-of d in
+    let s = second-of t in
+    rw (came-1 (first-of s), came-2 s, came-3 t, came-4 d) (c .end .ensures)
 
 pub sections-spec : {M : Type 1} → statement M
 sections-spec =

@@ -1,0 +1,49 @@
+// The requests that a case can make of the library, and what is printed of their answers.
+use crate::heading::Heading;
+use crate::scan::is_word;
+use crate::write;
+use table::Checked;
+
+pub enum Request {
+    Check,
+    Unknown,
+}
+
+// The request that a field names.
+pub fn request_of(field: &[u8]) -> Request {
+    if is_word(field, b"check") {
+        return Request::Check;
+    }
+    Request::Unknown
+}
+
+// Whether a request can be made with the numbers of a heading.
+pub fn takes(request: Request, heading: Heading) -> bool {
+    match request {
+        Request::Check => heading.numbers == 0,
+        Request::Unknown => false,
+    }
+}
+
+// Makes a request of the library, and prints what it gives.
+pub fn run(request: Request, heading: Heading, words: &[u16]) {
+    match request {
+        Request::Check => check(words),
+        Request::Unknown => {},
+    }
+}
+
+// What the table layer says of the words.
+fn check(words: &[u16]) {
+    let found = table::check(words);
+    match found {
+        Checked::Sound(l) => {
+            write::text(b" sound");
+            write::number(l.variables);
+            write::number(l.reads);
+            write::number(l.rows);
+            write::number(l.chosen);
+        }
+        Checked::Refused(r) => write::refusal(r),
+    }
+}

@@ -1,0 +1,24 @@
+// What is printed: text, and numbers each after a space.
+use libc::STDOUT_FILENO;
+use table::Refusal;
+
+pub fn text(bytes: &[u8]) {
+    io::write_all(STDOUT_FILENO, bytes);
+}
+
+pub fn number(n: usize) {
+    text(b" ");
+    io::print_decimal(STDOUT_FILENO, n as u64);
+}
+
+pub fn refusal(r: Refusal) {
+    text(b" refused");
+    number(r.number as usize);
+    number(r.place as usize);
+}
+
+// Of a line that is no case: the column, from 1 on, where that shows.
+pub fn malformed(at: usize) {
+    text(b" malformed at column");
+    number(at);
+}

@@ -1,0 +1,3 @@
+pub mod Marks
+pub mod Words
+pub mod Keys

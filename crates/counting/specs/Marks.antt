@@ -1,0 +1,22 @@
+-- The chosen labels as marks, one byte for each of 4,096 labels.
+use Prim.Native.Nat.{ℕ, _<_}
+use mathlib.Core.Bool.{Bool}
+use mathlib.Core.Path.{_≡_}
+use mathlib.Core.List.{List}
+use lib.Dec.{eqb}
+use lib.ListN.{length, getD}
+use Rattle.paper.specs.declared.Label.{Label}
+use Rattle.paper.specs.Formula.{ℓ, has}
+
+-- label l is marked
+unfoldable pub isMarked : List ℕ → ℕ → Bool
+isMarked marks l = eqb (getD marks l 0) 1
+
+-- the marks are those of the chosen labels
+pub record Marked (A : List Label) (marks : List ℕ) : Type 0 where
+  pub size : length marks ≡ 4096
+  pub marks-are : (l : ℕ) → l < 4096 → isMarked marks l ≡ has A (ℓ l)
+
+-- each word of a list is below a limit
+abbrev pub AllBelow : ℕ → List ℕ → Type 0
+AllBelow limit ws = (k : ℕ) → k < length ws → getD ws k 0 < limit

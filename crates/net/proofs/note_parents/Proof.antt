@@ -1,0 +1,58 @@
+-- The row over each row is noted, the rows before it having theirs.
+use Prim.Native.Nat.{_-_, _<_}
+use native.Mathlib.Omega.{arith}
+use borrow.Author.Needs.{needs}
+use Rattle.table.proofs.Rules.{number-of}
+use Rattle.net.specs.Net.{Parents}
+use Rattle.net.proofs.Notes.{parents-none, parents-more, parents-fewer}
+use Rattle.net.proofs.note_parents.Statement.{statement}
+use Rattle.net.proofs.note_parents.Tie as tie
+
+abbrev Inv-loop : tie.InvT-loop
+Inv-loop rows n net₀ i₀ net i = (0 < i) × Parents rows i net
+
+abbrev μ-loop : tie.MeasureT-loop
+μ-loop rows n net₀ i₀ net i = n - i
+
+loop-holds : tie.Need-loop-holds Inv-loop μ-loop
+loop-holds c = (omega arith, parents-none _ _ (c .before .pre .1))
+
+climbed-requires : tie.Need-climbed-requires Inv-loop μ-loop
+climbed-requires c κs = (c .before .before .before .before .pre .0, c .before .before .loop .inv .0, omega arith, c .before .before .loop .inv .1 .parents)
+
+cast-net : tie.Need-cast-net Inv-loop μ-loop
+cast-net c = search needs
+
+mul-net : tie.Need-mul-net Inv-loop μ-loop
+mul-net c = search needs
+
+element-write-net : tie.Need-element-write-net Inv-loop μ-loop
+element-write-net c = search needs
+
+add-i : tie.Need-add-i Inv-loop μ-loop
+add-i c = search needs
+
+loop-less : tie.Need-loop-less Inv-loop μ-loop
+loop-less c = search needs
+
+loop-again : tie.Need-loop-again Inv-loop μ-loop
+loop-again c = (omega arith, parents-more _ _ (omega arith) (number-of (c .climbed .ensures)) (c .before .before .before .loop .inv .1))
+
+returns : tie.Need-returns Inv-loop μ-loop
+returns c = parents-fewer _ (c .before .loop .inv .1) (omega arith)
+
+pub note-parents-spec : {M : Type 1} → statement M
+note-parents-spec =
+    tie.close
+    (tie.spec
+    Inv-loop
+    μ-loop
+    loop-holds
+    climbed-requires
+    cast-net
+    mul-net
+    element-write-net
+    add-i
+    loop-less
+    loop-again
+    returns)

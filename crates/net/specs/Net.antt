@@ -1,0 +1,71 @@
+-- The net: numbers kept beside the rows so that "before" can be followed without walking from the root. Its words are, one
+-- after another: for each of 4,096 rows the row over it and the star of its innermost guard (0 for none); for each of 2,048
+-- chosen labels the number of the next one with its variable, and for each of 1,024 variables the number of its first
+-- chosen label (the number of chosen labels for none).
+use Prim.Native.Nat.{ℕ, _+_, _-_, _<_, _≤_}
+use mathlib.Core.Bool.{true, false}
+use mathlib.Core.Path.{_≡_}
+use mathlib.Core.List.{List}
+use lib.Dec.{eqb}
+use lib.ListN.{length, getD}
+use Rattle.table.specs.First.{first}
+use Rattle.table.specs.Rows.{kindOf, argOf, endOf, Nested}
+use Rattle.net.specs.Prior.{parentOf, guardOf, together}
+
+-- where each part begins, and the whole length
+abbrev pub guardsFrom : ℕ
+guardsFrom = 4096
+
+abbrev pub nextsFrom : ℕ
+nextsFrom = 8192
+
+abbrev pub firstsFrom : ℕ
+firstsFrom = 10240
+
+abbrev pub netLength : ℕ
+netLength = 11264
+
+-- Rows of one tree: nested, the first over all others, with no row under the star of an exists or an IF, and none under a
+-- candidate but its star.
+pub record Tree (rows : List ℕ) (#N : ℕ) : Type 0 where
+  pub nested : Nested rows #N
+  pub whole : endOf rows 0 ≡ #N
+  pub bare : (i : ℕ) → i < #N → 4 < kindOf rows i → endOf rows (i + 1) ≡ i + 2
+  pub ended : (i : ℕ) → i < #N → kindOf rows i ≡ 2 → endOf rows i ≡ i + 2
+  pub starred : (i : ℕ) → i < #N → kindOf rows i ≡ 2 → kindOf rows (i + 1) ≡ 1
+
+-- What a net is made of: rows of one tree, and chosen labels of theirs, strictly ascending, each a candidate, with a
+-- variable below 1,024.
+pub record Chosen (rows chosen : List ℕ) (#N : ℕ) : Type 0 where
+  pub tree : Tree rows #N
+  pub few : length chosen ≤ 2047
+  pub below : (k : ℕ) → k < length chosen → getD chosen k 0 + 1 < #N
+  pub ascend : (j k : ℕ) → j < k → k < length chosen → getD chosen j 0 < getD chosen k 0
+  pub candidates : (k : ℕ) → k < length chosen → kindOf rows (getD chosen k 0) ≡ 2
+  pub variables : (k : ℕ) → k < length chosen → argOf rows (getD chosen k 0) < 1024
+
+-- the part of the net that has the row over each row, and the part that has each row's innermost guard
+pub record Parents (rows : List ℕ) (#N : ℕ) (net : List ℕ) : Type 0 where
+  pub size : length net ≡ netLength
+  pub parents : (i : ℕ) → 0 < i → i < #N → getD net i 0 ≡ parentOf rows i
+
+pub record Guards (rows : List ℕ) (#N : ℕ) (net : List ℕ) : Type 0 where
+  pub guards : (i : ℕ) → i < #N → getD net (guardsFrom + i) 0 ≡ guardOf rows i
+
+module _ (rows chosen : List ℕ) where
+  -- the number of the first chosen label of v from number k on, or how many there are
+  unfoldable pub firstWith : ℕ → ℕ → ℕ
+  firstWith v k = k + first (λ m. eqb (argOf rows (getD chosen (k + m) 0)) v) (length chosen - k)
+
+  pub record Net (#N : ℕ) (net : List ℕ) : Type 0 where
+    pub parents : Parents rows #N net
+    pub guards : Guards rows #N net
+    pub nexts : (k : ℕ) → k < length chosen → getD net (nextsFrom + k) 0 ≡ firstWith (argOf rows (getD chosen k 0)) (k + 1)
+    pub firsts : (v : ℕ) → v < 1024 → getD net (firstsFrom + v) 0 ≡ firstWith v 0
+
+-- what is known of labels from i on, for the candidate in row j: r is i where they share a branch; else no label from i on
+-- below r shares one with j
+pub record Cleared (rows : List ℕ) (i j r : ℕ) : Type 0 where
+  pub from : i ≤ r
+  pub shared : r ≡ i → together rows i j ≡ true
+  pub apart : (x : ℕ) → i ≤ x → x < r → together rows x j ≡ false

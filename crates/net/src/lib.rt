@@ -1,0 +1,177 @@
+// The net: what is kept beside the rows so that "before" can be followed label by label without walking from the root.
+ghost use mathlib.Core.Path.{_≡_};
+ghost use Prim.Native.Nat.{ℕ, _+_, _*_, _≤_, _<_};
+ghost use lib.ListN.{length, getD, take};
+ghost use Rattle.paper.specs.Formula.{ℓ};
+ghost use Rattle.table.specs.Rows.{kindOf};
+ghost use Rattle.net.specs.Prior.{isUnder, parentOf, guardOf};
+ghost use Rattle.net.specs.Net.{Tree, Chosen, Parents, Guards, Net, Cleared, guardsFrom, nextsFrom, firstsFrom, netLength};
+use paper::Label;
+use paper::Variable;
+use table::rows::arg_of;
+use table::rows::end_of;
+use table::rows::kind_of;
+use table::rows::wide;
+
+// The row over a row.
+pub fn parent_of(net: &[u16; 11264], at: Label) -> Label
+    requires { ⌜ at .0 < 4096 ⌝ }
+    ensures { λ r. ⌜ r ≡ ℓ (getD (now (net .entry)) (at .0) 0) ⌝ }
+{
+    let i = at.0 as usize;
+    Label(net[i])
+}
+
+// The star of the innermost guard around a row, or label 0 for none.
+pub fn guard_of(net: &[u16; 11264], at: Label) -> Label
+    requires { ⌜ at .0 < 4096 ⌝ }
+    ensures { λ r. ⌜ r ≡ ℓ (getD (now (net .entry)) (guardsFrom + at .0) 0) ⌝ }
+{
+    let i = at.0 as usize;
+    Label(net[4096 + i])
+}
+
+// The number of the next chosen label with the variable of the k-th.
+pub fn next_of(net: &[u16; 11264], k: usize) -> usize
+    requires { ⌜ k < 2048 ⌝ }
+    ensures { λ r. ⌜ r ≡ getD (now (net .entry)) (nextsFrom + k) 0 ⌝ }
+{
+    wide(net[8192 + k])
+}
+
+// The number of the first chosen label of a variable.
+pub fn first_of(net: &[u16; 11264], v: Variable) -> usize
+    requires { ⌜ v .0 < 1024 ⌝ }
+    ensures { λ r. ⌜ r ≡ getD (now (net .entry)) (firstsFrom + v .0) 0 ⌝ }
+{
+    let i = v.0 as usize;
+    wide(net[10240 + i])
+}
+
+// Whether row `at` lies in the subtree of row `top`.
+fn is_over(rows: &[u16], top: Label, at: Label) -> bool
+    requires { ⌜ 4 * (top .0) + 4 ≤ length (now rows) ⌝ }
+    ensures { λ r. ⌜ r ≡ isUnder (now (rows .entry)) (top .0) (at .0) ⌝ }
+{
+    if at.0 < top.0 {
+        return false;
+    }
+    at.0 < end_of(rows, top).0
+}
+
+// The row over a row that is not the first, from the rows over those before it: from the row before it up, the first whose
+// subtree holds it.
+fn climbed(rows: &[u16], net: &[u16; 11264], n: u16, at: Label) -> Label
+    requires { ⌜ Tree (now rows) n × (0 < at .0) × (at .0 < n) × ((i : ℕ) → 0 < i → i < at .0 → getD (now net) i 0 ≡ parentOf (now rows) i) ⌝ }
+    ensures { λ r. ⌜ r ≡ ℓ (parentOf (now (rows .entry)) (at .0)) ⌝ }
+{
+    let mut top = Label(at.0 - 1);
+    while end_of(rows, top).0 <= at.0 {
+        top = parent_of(net, top);
+    }
+    top
+}
+
+// Notes the row over each row.
+fn note_parents(rows: &[u16], n: u16, net: &mut [u16; 11264])
+    requires { ⌜ Tree (now rows) n × (length (now net) ≡ netLength) ⌝ }
+    ensures { λ _. ⌜ Parents (now (rows .entry)) n (now (net .exit)) ⌝ }
+{
+    let mut i: u16 = 1;
+    while i < n {
+        let top = climbed(rows, net, n, Label(i));
+        net[i as usize] = top.0;
+        i += 1;
+    }
+}
+
+// The star of the innermost guard around a row that is not the first, from those of the rows before it.
+fn guarded_by(rows: &[u16], net: &[u16; 11264], n: u16, at: Label) -> Label
+    requires { ⌜ Tree (now rows) n × (0 < at .0) × (at .0 < n) × (getD (now net) (at .0) 0 ≡ parentOf (now rows) (at .0)) × ((i : ℕ) → i < at .0 → getD (now net) (guardsFrom + i) 0 ≡ guardOf (now rows) i) ⌝ }
+    ensures { λ r. ⌜ r ≡ ℓ (guardOf (now (rows .entry)) (at .0)) ⌝ }
+{
+    let top = parent_of(net, at);
+    if kind_of(rows, top) < 5 {
+        return guard_of(net, top);
+    }
+    if at.0 == top.0 + 1 {
+        return guard_of(net, top);
+    }
+    Label(top.0 + 1)
+}
+
+// Notes the star of the innermost guard around each row.
+fn note_guards(rows: &[u16], n: u16, net: &mut [u16; 11264])
+    requires { ⌜ Tree (now rows) n × Parents (now rows) n (now net) ⌝ }
+    ensures { λ _. ⌜ Parents (now (rows .entry)) n (now (net .exit)) × Guards (now (rows .entry)) n (now (net .exit)) ⌝ }
+{
+    net[4096] = 0;
+    let mut i: u16 = 1;
+    while i < n {
+        let star = guarded_by(rows, net, n, Label(i));
+        let k = i as usize;
+        net[4096 + k] = star.0;
+        i += 1;
+    }
+}
+
+// Notes for each variable that it has no chosen label yet: the number of chosen labels.
+fn note_none(none: u16, net: &mut [u16; 11264])
+    requires { ⌜ length (now net) ≡ netLength ⌝ }
+    ensures { λ _. ⌜ (length (now (net .exit)) ≡ netLength) × (take firstsFrom (now (net .exit)) ≡ take firstsFrom (now (net .entry))) × ((v : ℕ) → v < 1024 → getD (now (net .exit)) (firstsFrom + v) 0 ≡ none) ⌝ }
+{
+    let mut v = 0;
+    while v < 1024 {
+        net[10240 + v] = none;
+        v += 1;
+    }
+}
+
+// Notes for each chosen label the next one of its variable, and for each variable its first, from the last label down.
+fn note_chains(rows: &[u16], chosen: &[u16], n: u16, net: &mut [u16; 11264])
+    requires { ⌜ Chosen (now rows) (now chosen) n × Parents (now rows) n (now net) × Guards (now rows) n (now net) ⌝ }
+    ensures { λ _. ⌜ Net (now (rows .entry)) (now (chosen .entry)) n (now (net .exit)) ⌝ }
+{
+    note_none(chosen.len() as u16, net);
+    let mut k = chosen.len();
+    while 0 < k {
+        k -= 1;
+        let v = wide(arg_of(rows, Label(chosen[k])));
+        net[8192 + k] = net[10240 + v];
+        net[10240 + v] = k as u16;
+    }
+}
+
+// The net of rows and chosen labels.
+pub fn note_net(rows: &[u16], chosen: &[u16], n: u16, net: &mut [u16; 11264])
+    requires { ⌜ Chosen (now rows) (now chosen) n × (length (now net) ≡ netLength) ⌝ }
+    ensures { λ _. ⌜ Net (now (rows .entry)) (now (chosen .entry)) n (now (net .exit)) ⌝ }
+{
+    note_parents(rows, n, net);
+    note_guards(rows, n, net);
+    note_chains(rows, chosen, n, net);
+}
+
+// Whether candidates i and j share a branch, and what that tells of the labels after i: i itself where they do, else a label
+// above it below which none from i on shares a branch with j.
+pub fn clear_of(rows: &[u16], net: &[u16; 11264], n: u16, i: Label, j: Label) -> Label
+    requires { ⌜ Tree (now rows) n × Parents (now rows) n (now net) × (i .0 < n) × (j .0 < n) × (kindOf (now rows) (i .0) ≡ 2) × (kindOf (now rows) (j .0) ≡ 2) ⌝ }
+    ensures { λ r. ⌜ Cleared (now (rows .entry)) (i .0) (j .0) (r .0) ⌝ }
+{
+    if i.0 == j.0 {
+        return i;
+    }
+    let mut below = j;
+    let mut top = parent_of(net, j);
+    while !is_over(rows, top, i) {
+        below = top;
+        top = parent_of(net, top);
+    }
+    if kind_of(rows, top) == 3 {
+        return i;
+    }
+    if i.0 < below.0 {
+        return below;
+    }
+    end_of(rows, top)
+}

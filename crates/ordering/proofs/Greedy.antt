@@ -1,0 +1,216 @@
+-- The code's steps are those of the reported order: the lowest number that is ready is the first of those left that no
+-- number left is before.
+use Prim.Native.Nat.{ℕ, zero, suc, _+_, _-_, _<_, _≤_}
+use native.Mathlib.Omega.{arith}
+use native.Mathlib.Numerals.{add-one}
+use mathlib.Core.Path.{_≡_, refl, sym, subst, ap, _∙_}
+use mathlib.Core.Bool.{Bool, true, false, cond, _&&_, _||_, not}
+use mathlib.Core.List.{List, [], _∷_, _++_, append-nil}
+use lib.Dec.{eqb}
+use lib.ListN.{length, getD, set, take, drop, replicate, length-set, length-map, length-replicate, getD-replicate, take-append-drop, List·getD-eq-default}
+use lib.Seq.{getD-set-same, getD-set-other, take-suc-set, append-snoc, drop-set-lt, drop-drop, length-take-le}
+use borrow.Author.Tests.{eq-eqb, ne-eqb, not-true}
+use Rattle.paper.specs.Lists.{anyOf, those}
+use Rattle.paper.specs.Order.{isReady, greedyBy}
+use Rattle.paper.proofs.Bools.{and-left, and-right}
+use Rattle.paper.proofs.Lists.{those-le, those-lt, those-all, to-those}
+use Rattle.net.specs.Prior.{upTo, prior}
+use Rattle.ordering.specs.Prior.{ordered, labelled, written, Filled}
+use Rattle.ordering.specs.Graph.{Graph, Next, free, leftOf, slots, Started}
+use Rattle.ordering.specs.Placing.{Blocked, State, Lowest, rest, Placing}
+use Rattle.ordering.proofs.Tests.{by-eq, by-lt, never}
+use Rattle.ordering.proofs.Kept.{in-upTo, length-upTo, those-those, those-same, some-kept, none-some, none-kept, first-kept}
+
+pub left-few : (n : ℕ) (mark : List ℕ) → 0 + length (leftOf n mark) ≤ n
+unfolding leftOf
+left-few n mark = let z = those-le (free mark) (upTo n) in omega (arith, length-upTo n)
+
+-- a mark a is put at k, which was new: the new numbers are those that were, without it
+module _ (a : ℕ) (some : a ≡ 0 → ⊥) (k : ℕ) (mark : List ℕ) (long : k < length mark) where
+  pub freed : (i : ℕ) → free (set mark k a) i ≡ (free mark i && not (eqb i k))
+  unfolding free
+  freed i =
+      by-eq i k
+      (λ e. ap (λ z. eqb z 0) (ap (λ z. getD (set mark k a) z 0) e ∙ getD-set-same mark k a 0 long) ∙ ne-eqb a 0 some ∙ sym (and-no (eqb (getD mark i 0) 0) (eqb i k) (eq-eqb i k e)))
+      (λ d. ap (λ z. eqb z 0) (getD-set-other mark k i a 0 d) ∙ sym (and-yes (eqb (getD mark i 0) 0) (eqb i k) (ne-eqb i k d)))
+    where
+      and-no : (a b : Bool) → b ≡ true → (a && not b) ≡ false
+      and-no true b e = rw e
+      and-no false b e = refl
+
+      and-yes : (a b : Bool) → b ≡ false → (a && not b) ≡ a
+      and-yes true b e = rw e
+      and-yes false b e = refl
+
+  pub was-free : (i : ℕ) → free (set mark k a) i ≡ true → free mark i ≡ true
+  was-free i e = and-left _ (not (eqb i k)) (sym (freed i) ∙ e)
+
+  pub left-after : (n : ℕ) → those (λ i. not (eqb i k)) (leftOf n mark) ≡ leftOf n (set mark k a)
+  unfolding leftOf
+  left-after n =
+      those-those (λ i. not (eqb i k)) (free mark) (upTo n) ∙ those-same (λ i. free mark i && not (eqb i k)) (free (set mark k a)) (upTo n) (λ i t. sym (freed i))
+
+  pub left-shorter : (n : ℕ) → k < n → free mark k ≡ true → length (leftOf n (set mark k a)) < length (leftOf n mark)
+  unfolding leftOf
+  left-shorter n h e =
+      subst (λ l. length l < length (leftOf n mark)) (left-after n)
+      (those-lt (λ i. not (eqb i k)) (leftOf n mark) k (to-those (free mark) (in-upTo n k h) e) (ap not (eq-eqb k k refl)))
+
+module _ (g : Graph) where
+  -- a step of the order, and its end
+  rest-step : (m : ℕ) (left : List ℕ) (k : ℕ) (js : List ℕ) → those (isReady (g .before) left) left ≡ k ∷ js
+      → rest g (suc m) left ≡ k ∷ rest g m (those (λ i. not (eqb i k)) left)
+  rest-step m left k js e = rw (e, greedyBy)
+
+  rest-stuck : (m : ℕ) (left : List ℕ) → those (isReady (g .before) left) left ≡ [] → rest g m left ≡ []
+  rest-stuck zero left e = refl
+  rest-stuck (suc m) left e = rw (e, greedyBy)
+
+  module _ (k : ℕ) (placed finger wait low : List ℕ) (s : State g k placed finger wait low) where
+    -- a number below k that is left is not ready
+    not-ready : (j : ℕ) → j < k → free placed j ≡ true → isReady (g .before) (leftOf (g .size) placed) j ≡ false
+    unfolding leftOf
+    not-ready j h e =
+        let b = s .blocked j h e in ap not (some-kept (λ i. g .before i j) (free placed) (g .size) (getD wait j 0) (b .inside) (b .waiting) (b .because))
+
+    -- a number whose finger has passed all is ready
+    is-ready : k < g .size → ((i : ℕ) → i < g .size → g .passed k (getD finger k 0) i ≡ true) → isReady (g .before) (leftOf (g .size) placed) k ≡ true
+    unfolding leftOf
+    is-ready h e = ap not (none-some (λ i. g .before i k) (free placed) (g .size) (λ i l q. s .clear k h i l (e i l) q))
+
+    head-is : k < g .size → free placed k ≡ true → ((i : ℕ) → i < g .size → g .passed k (getD finger k 0) i ≡ true)
+        → (js : List ℕ) × (those (isReady (g .before) (leftOf (g .size) placed)) (leftOf (g .size) placed) ≡ k ∷ js)
+    unfolding leftOf
+    head-is h e f = first-kept (isReady (g .before) (leftOf (g .size) placed)) (free placed) (g .size) k h (λ i l q. not-ready i l q) e (is-ready h f)
+
+    none-is : g .size ≤ k → those (isReady (g .before) (leftOf (g .size) placed)) (leftOf (g .size) placed) ≡ []
+    unfolding leftOf
+    none-is h = none-kept (isReady (g .before) (leftOf (g .size) placed)) (free placed) (g .size) (λ i l q. not-ready i (omega arith) q)
+
+    -- the state after k is placed, from the lowest number on that waited for it
+    pub state-after : k < g .size → (from : ℕ) → from ≤ getD low k 0 → from ≤ k + 1 → State g from (set placed k 1) finger wait low
+    state-after h from l m = record {
+      small = s .small;
+      places = length-set placed k 1 ∙ s .places;
+      fingers = s .fingers;
+      waits = s .waits;
+      lows = s .lows;
+      within = s .within;
+      clear = λ j hj i hi t e. s .clear j hj i hi t (was i e);
+      awaits = λ j hj hw e. let b = s .awaits j hj hw (was (getD wait j 0) e) in record { inside = b .inside; waiting = e; because = b .because; seen = b .seen };
+      blocked = λ j hj e. let b = s .blocked j (below j hj e) (was j e) in record {
+        inside = b .inside;
+        waiting = still (getD wait j 0) (b .waiting) (λ q. omega (arith, b .seen, ap (λ (z : ℕ). getD low z 0) q));
+        because = b .because;
+        seen = b .seen;
+      };
+    }
+      where
+        long : k < length placed
+        long = omega (arith, s .small, s .places)
+
+        was : (i : ℕ) → free (set placed k 1) i ≡ true → free placed i ≡ true
+        was = was-free 1 (λ e. omega arith) k placed long
+
+        below : (j : ℕ) → j < from → free (set placed k 1) j ≡ true → j < k
+        below j hj e =
+            by-eq j k
+            (λ q. never (eqb j k) (eq-eqb j k q) (not-true _ (and-right (free placed j) _ (sym (freed 1 (λ z. omega arith) k placed long j) ∙ e))))
+            (λ q. omega arith)
+
+        still : (i : ℕ) → free placed i ≡ true → (i ≡ k → ⊥) → free (set placed k 1) i ≡ true
+        still i e q = freed 1 (λ z. omega arith) k placed long i ∙ rw (e, ne-eqb i k q)
+
+  -- one number more is placed
+  module _ (chosen : List ℕ) (count k : ℕ) (placed finger wait low out₀ out : List ℕ) (w : Lowest g placed finger wait low k)
+      (p : Placing g chosen count placed out₀ out) (h : k < g .size) where
+    long : k < length placed
+    long = omega (arith, w .state .small, w .state .places)
+
+    shorter : length (leftOf (g .size) (set placed k 1)) < length (leftOf (g .size) placed)
+    shorter = left-shorter 1 (λ e. omega arith) k placed long (g .size) h (w .ready h .0)
+
+    pub not-full : count < g .size
+    not-full = let z = shorter in omega (arith, p .counted)
+
+    pub placing-more : Placing g chosen (count + 1) (set placed k 1) out₀ (set out count (getD chosen k 0))
+    placing-more = record {
+      size = length-set out count (getD chosen k 0) ∙ p .size;
+      counted = let z = shorter in omega (arith, p .counted);
+      sofar = p .sofar ∙ one;
+      behind = drop-set-lt (count + 1) out count (getD chosen k 0) (omega arith) ∙ sym (drop-drop 1 count out) ∙ ap (drop 1) (p .behind) ∙ drop-drop 1 count out₀;
+    }
+      where
+        head : (js : List ℕ) × (those (isReady (g .before) (leftOf (g .size) placed)) (leftOf (g .size) placed) ≡ k ∷ js)
+        head = head-is k placed finger wait low (w .state) h (w .ready h .0) (w .ready h .1)
+
+        inside : count < length out
+        inside = let z = not-full in omega (arith, p .size, w .state .small)
+
+        fuel : g .size - count ≡ suc (g .size - (count + 1))
+        fuel = let z = not-full in omega arith
+
+        more : List ℕ
+        more = labelled chosen (rest g (g .size - (count + 1)) (leftOf (g .size) (set placed k 1)))
+
+        one : take count out ++ labelled chosen (rest g (g .size - count) (leftOf (g .size) placed)) ≡ take (count + 1) (set out count (getD chosen k 0)) ++ more
+        one =
+            ap (λ m. take count out ++ labelled chosen (rest g m (leftOf (g .size) placed))) fuel
+            ∙ ap (λ l. take count out ++ labelled chosen l) (rest-step (g .size - (count + 1)) (leftOf (g .size) placed) k (head .0) (head .1))
+            ∙ ap (λ l. take count out ++ labelled chosen (k ∷ rest g (g .size - (count + 1)) l)) (left-after 1 (λ e. omega arith) k placed long (g .size))
+            ∙ sym (append-snoc (take count out) (getD chosen k 0) more)
+            ∙ ap (λ l. l ++ more) (sym (take-suc-set out count (getD chosen k 0) inside) ∙ ap (λ i. take i (set out count (getD chosen k 0))) (sym (add-one count)))
+
+  -- nothing is ready
+  pub placing-done : (chosen : List ℕ) (count k : ℕ) (placed finger wait low out₀ out : List ℕ) → State g k placed finger wait low
+      → Placing g chosen count placed out₀ out → g .size ≤ k
+      → (count ≡ length (rest g (g .size) (upTo (g .size)))) × (out ≡ written (labelled chosen (rest g (g .size) (upTo (g .size)))) out₀)
+  unfolding written
+  placing-done chosen count k placed finger wait low out₀ out s p h = (
+    sym (sym (length-map (rest g (g .size) (upTo (g .size))) (λ i. getD chosen i 0)) ∙ ap length all ∙ long),
+    sym (take-append-drop count out) ∙ ap (λ l. take count out ++ l) (p .behind) ∙ ap (λ l. take count out ++ drop l out₀) (sym long)
+        ∙ ap (λ l. l ++ drop (length l) out₀) (sym all),
+  )
+    where
+      all : labelled chosen (rest g (g .size) (upTo (g .size))) ≡ take count out
+      all =
+          p .sofar
+          ∙ ap (λ l. take count out ++ labelled chosen l) (rest-stuck (g .size - count) (leftOf (g .size) placed) (none-is k placed finger wait low s h))
+          ∙ append-nil (take count out)
+
+      long : length (take count out) ≡ count
+      long = length-take-le count out (omega (arith, p .size, p .counted, s .small))
+
+  -- at the start
+  pub state-first : (finger : List ℕ) → g .size < slots → Started g finger → State g 0 (replicate 2048 0) finger (replicate 2048 2048) (replicate 2048 2048)
+  state-first finger h s = record {
+    small = h;
+    places = length-replicate {A = ℕ} 2048 0;
+    fingers = s .size;
+    waits = length-replicate {A = ℕ} 2048 2048;
+    lows = length-replicate {A = ℕ} 2048 2048;
+    within = s .within;
+    clear = λ j hj i hi t e. s .clear j hj i hi t;
+    awaits = λ j hj hw e. absurd (omega (arith, getD-replicate {A = ℕ} 2048 j 2048 0 (omega arith)));
+    blocked = λ j hj e. absurd (omega arith);
+  }
+
+  pub placing-first : (chosen out : List ℕ) → g .size < slots → length out ≡ slots → Placing g chosen 0 (replicate 2048 0) out out
+  unfolding leftOf free
+  placing-first chosen out h size = record {
+    size = size;
+    counted = subst (λ l. 0 + length l ≤ g .size) (sym whole) (omega (arith, length-upTo (g .size)));
+    sofar = ap (λ m. labelled chosen (rest g m (upTo (g .size)))) none-off ∙ ap (λ l. labelled chosen (rest g (g .size - 0) l)) (sym whole);
+    behind = refl;
+  }
+    where
+      none-off : g .size ≡ g .size - 0
+      none-off = omega arith
+
+      whole : those (λ i. eqb (getD (replicate 2048 0) i 0) 0) (upTo (g .size)) ≡ upTo (g .size)
+      whole = those-all _ (upTo (g .size)) (λ i t. eq-eqb _ 0 (zeros i))
+        where
+          zeros : (i : ℕ) → _≡_ {A = ℕ} (getD (replicate 2048 0) i 0) 0
+          zeros i =
+              by-lt i 2048 (λ q. getD-replicate {A = ℕ} 2048 i 0 0 q)
+              (λ q. List·getD-eq-default (replicate 2048 0) 0 (subst (λ z. z ≤ i) (sym (length-replicate {A = ℕ} 2048 0)) q))

@@ -1,0 +1,14 @@
+pub mod Tests
+pub mod Kept
+pub mod Moves
+pub mod Greedy
+pub mod Chains
+pub mod Walks
+pub mod Popped
+pub mod Steps
+pub mod Loops
+pub mod Guards
+pub mod Onward
+pub mod Seeking
+pub mod Looking
+pub mod Itself

@@ -1,0 +1,77 @@
+-- The loop's invariant: the path and `best` are as they should be, and no mark went back. The measure is how far the walk has to go.
+use native.Mathlib.Omega.{arith}
+use Rattle.ordering.specs.Path.{Walked, Best, Grown, weight}
+use Rattle.ordering.specs.Places.{graphOf}
+use Rattle.ordering.proofs.Steps.{explore-path, explore-best, explore-end}
+use Rattle.ordering.proofs.cycle.explore.Statement.{statement}
+use Rattle.ordering.proofs.cycle.explore.Tie as tie
+
+abbrev Inv-loop : tie.InvT-loop
+Inv-loop rows reads chosen net n root mark₀ stack₀ bound₀ finger₀ best w₀ mark stack bound finger w =
+    Walked (graphOf rows reads chosen n) mark stack bound finger (w .len) (w .top) (w .at) × Best (graphOf rows reads chosen n) mark (w .best)
+    × Grown (graphOf rows reads chosen n) mark₀ mark
+
+abbrev μ-loop : tie.MeasureT-loop
+μ-loop rows reads chosen net n root mark₀ stack₀ bound₀ finger₀ best w₀ mark stack bound finger w = weight (graphOf rows reads chosen n) mark (w .top) (w .at)
+
+cast-stack : tie.Need-cast-stack Inv-loop μ-loop
+cast-stack c =
+    let a = c .before .before .before .pre in
+    omega (arith, a .0 .choice .few)
+
+element-write-stack : tie.Need-element-write-stack Inv-loop μ-loop
+element-write-stack c = omega arith
+
+mul-mark : tie.Need-mul-mark Inv-loop μ-loop
+mul-mark c =
+    let a = c .before .before .before .pre in
+    omega (arith, a .0 .choice .few)
+
+element-write-mark : tie.Need-element-write-mark Inv-loop μ-loop
+element-write-mark c =
+    let a = c .before .before .before .pre in
+    omega (arith, a .0 .choice .few)
+
+element-write-bound : tie.Need-element-write-bound Inv-loop μ-loop
+element-write-bound c = omega arith
+
+loop-holds : tie.Need-loop-holds Inv-loop μ-loop
+loop-holds c =
+    let a = c .before .before .before .pre in
+    (explore-path _ _ _ _ _ _ (a .3) (a .1) (a .2), explore-best _ _ _ _ _ _ (a .3) (a .1) _ (a .4), λ i hi e. e)
+
+step-requires : tie.Need-step-requires Inv-loop μ-loop
+step-requires c κs =
+    let v = c .before .before .before .before .before .before .loop .inv in
+    (c .before .before .before .before .before .before .before .before .before .before .pre .0, c .before .before .before .before .if1 .taken, v .0, v .1)
+
+loop-less : tie.Need-loop-less Inv-loop μ-loop
+loop-less c = c .step .ensures .less
+
+loop-again : tie.Need-loop-again Inv-loop μ-loop
+loop-again c =
+    let t = c .step .ensures in
+    (t .path, t .best-so-far, λ i hi e. c .before .before .before .before .before .before .before .loop .inv .2 i hi (t .grown i hi e))
+
+returns : tie.Need-returns Inv-loop μ-loop
+returns c =
+    let a = c .before .before .before .before .before .before .pre in
+    let v = c .before .before .loop .inv in
+    explore-end _ _ _ _ _ _ (a .3) (a .1) _ _ _ _ _ _ _ _ (v .0) (v .1) (v .2) (c .if1 .left)
+
+pub explore-spec : {M : Type 1} → statement M
+explore-spec =
+    tie.close
+    (tie.spec
+    Inv-loop
+    μ-loop
+    cast-stack
+    element-write-stack
+    mul-mark
+    element-write-mark
+    element-write-bound
+    loop-holds
+    step-requires
+    loop-less
+    loop-again
+    returns)

@@ -1,0 +1,77 @@
+-- The loop's invariant: the path is empty, `best` is as it should be, and the numbers below root are not new.
+use Prim.Native.Nat.{ℕ, _-_, _<_, _≤_}
+use native.Mathlib.Omega.{arith}
+use mathlib.Core.Path.{_≡_, refl, _∙_}
+use mathlib.Core.Bool.{false}
+use lib.ListN.{length}
+use borrow.Author.Count.{below-more}
+use Rattle.paper.proofs.Bools.{not-so}
+use Rattle.table.proofs.First.{first-same}
+use Rattle.ordering.specs.Prior.{isCyclic, lowestCyclic}
+use Rattle.ordering.specs.Graph.{free}
+use Rattle.ordering.specs.Path.{ringed, Walked, Best}
+use Rattle.ordering.specs.Places.{graphOf}
+use Rattle.ordering.proofs.Tests.{never}
+use Rattle.ordering.proofs.Seeking.{started}
+use Rattle.ordering.proofs.Steps.{empty-first, best-start, best-first}
+use Rattle.ordering.proofs.cycle.lowest_on_cycle.Statement.{statement}
+use Rattle.ordering.proofs.cycle.lowest_on_cycle.Tie as tie
+
+abbrev Inv-loop : tie.InvT-loop
+Inv-loop rows reads chosen net n mark₀ stack₀ bound₀ finger₀ best₀ root₀ mark stack bound finger best root =
+    (root ≤ length chosen) × Walked (graphOf rows reads chosen n) mark stack bound finger 0 0 0 × Best (graphOf rows reads chosen n) mark best
+    × ((i : ℕ) → i < root → free mark i ≡ false)
+
+abbrev μ-loop : tie.MeasureT-loop
+μ-loop rows reads chosen net n mark₀ stack₀ bound₀ finger₀ best₀ root₀ mark stack bound finger best root = length chosen - root
+
+start-requires : tie.Need-start-requires Inv-loop μ-loop
+start-requires c κs = (c .before .before .before .before .pre .choice, refl)
+
+first-self-requires : tie.Need-first-self-requires Inv-loop μ-loop
+first-self-requires c κs = c .before .before .before .before .before .pre
+
+loop-holds : tie.Need-loop-holds Inv-loop μ-loop
+loop-holds c =
+    let R = c .before .before .before .before .before .before .pre in
+    let s = R .choice .few in
+    (omega arith, empty-first _ _ (omega arith) (started _ _ _ _ _ _ R (c .before .start .ensures)), best-start _ _ (omega arith) (c .first-self .ensures), λ i h. absurd (omega arith))
+
+visit-root-requires : tie.Need-visit-root-requires Inv-loop μ-loop
+visit-root-requires c κs =
+    let v = c .before .before .before .before .before .loop .inv in
+    (c .before .before .before .before .before .before .before .before .before .before .before .before .pre, c .before .before .before .before .loop-test .taken, v .1, v .2)
+
+add-root : tie.Need-add-root Inv-loop μ-loop
+add-root c = omega (arith, c .before .before .before .before .before .loop-test .taken)
+
+loop-less : tie.Need-loop-less Inv-loop μ-loop
+loop-less c = omega (arith, c .before .before .before .before .before .loop-test .taken)
+
+loop-again : tie.Need-loop-again Inv-loop μ-loop
+loop-again c =
+    let v = c .before .before .before .before .before .before .loop .inv in
+    let t = c .visit-root .ensures in
+    let l = c .before .before .before .before .before .loop-test .taken in
+    (omega (arith, l), t .path, t .best-so-far, below-more _ _ (λ i hi. not-so _ (λ e. never _ (t .grown i (omega (arith, l)) e) (v .3 i hi))) (t .taken))
+
+returns : tie.Need-returns Inv-loop μ-loop
+unfolding lowestCyclic isCyclic ringed
+returns c =
+    let v = c .before .loop .inv in
+    best-first _ _ _ _ _ _ (v .1) (v .2) (λ i hi. v .3 i (omega (arith, c .loop-test .left))) ∙ first-same _ _ _ (λ k h. refl)
+
+pub lowest-on-cycle-spec : {M : Type 1} → statement M
+lowest-on-cycle-spec =
+    tie.close
+    (tie.spec
+    Inv-loop
+    μ-loop
+    start-requires
+    first-self-requires
+    loop-holds
+    visit-root-requires
+    add-root
+    loop-less
+    loop-again
+    returns)

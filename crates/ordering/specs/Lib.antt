@@ -1,0 +1,5 @@
+pub mod Prior
+pub mod Graph
+pub mod Placing
+pub mod Path
+pub mod Places
