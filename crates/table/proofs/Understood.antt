@@ -190,6 +190,7 @@ module _ (words : List ℕ) (l : Layout) (h : Laid words l) where
     laid-out = laid-out;
     of-counts = h .of-counts;
     all-words = omega (arith, h .all-words, chosen-from);
+    most-words = omega (arith, h .all-words, h .names .most, h .reads .most, h .rows .most, h .chosen .most);
     some-variables = h .names .some;
     most-variables = h .names .most;
     most-reads = h .reads .most;

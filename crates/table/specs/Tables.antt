@@ -61,6 +61,7 @@ pub record Understood (words : List ℕ) (l : Layout) : Type 0 where
   -- the counts and positions
   pub of-counts : l ≡ layout (l .variables) (l .reads) (l .rows) (l .chosen)
   pub all-words : length words ≡ l .«chosen_at» + l .chosen
+  pub most-words : length words ≤ 29700
   pub some-variables : 1 ≤ l .variables
   pub most-variables : l .variables ≤ 1024
   pub most-reads : l .reads ≤ 8192
