@@ -1,0 +1,6 @@
+pub mod Placing
+pub mod Decimals
+pub mod Texts
+pub mod Lengths
+pub mod Positions
+pub mod Example

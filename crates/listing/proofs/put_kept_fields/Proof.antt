@@ -1,0 +1,68 @@
+-- `put_kept_fields` goes through the bytes: the fields of the kept ones among the first i positions are in the buffer, and a turn
+-- puts the next position where it is kept.
+use borrow.Author.Needs.{needs}
+use Prim.Native.Nat.{_+_, _-_, _*_, _≤_}
+use native.Mathlib.Omega.{arith}
+use mathlib.Core.Path.{_≡_}
+use lib.ListN.{length, take}
+use lib.Seq.{take-all}
+use Rattle.listing.specs.Text.{fields, positionsFrom, positions}
+use Rattle.listing.specs.Placed.{Put}
+use Rattle.listing.proofs.Placing.{put-nothing, put-then}
+use Rattle.listing.proofs.Texts.{positions-next}
+use Rattle.listing.proofs.put_kept_fields.Statement.{statement}
+use Rattle.listing.proofs.put_kept_fields.Tie as tie
+
+abbrev Inv-loop : tie.InvT-loop
+Inv-loop buf₀ at kept next₀ i₀ buf next i =
+    (i ≤ length kept) × (next ≤ at + 6 * i) × (length buf ≡ length buf₀) × Put buf₀ at (fields (positions (take i kept))) buf next
+
+abbrev μ-loop : tie.MeasureT-loop
+μ-loop buf₀ at kept next₀ i₀ buf next i = length kept - i
+
+loop-holds : tie.Need-loop-holds Inv-loop μ-loop
+unfolding fields positionsFrom positions
+loop-holds c = (search needs, search needs, search needs, put-nothing _ _ (omega arith))
+
+cast-put-position : tie.Need-cast-put-position Inv-loop μ-loop
+cast-put-position c = search needs
+
+shared-slice-read-put-position : tie.Need-shared-slice-read-put-position Inv-loop μ-loop
+shared-slice-read-put-position c = search needs
+
+put-position-requires : tie.Need-put-position-requires Inv-loop μ-loop
+put-position-requires c κs = search needs
+
+add-i : tie.Need-add-i Inv-loop μ-loop
+add-i c = search needs
+
+loop-less : tie.Need-loop-less Inv-loop μ-loop
+loop-less c = search needs
+
+loop-again : tie.Need-loop-again Inv-loop μ-loop
+loop-again c =
+    let p = c .before .before .put-position .ensures .0 in
+    let t = c .before .before .before .before .before in
+    (search needs, search needs, search needs, rw (positions-next _ _ (t .loop-test .taken)) (put-then (t .before .loop .inv .3) p))
+
+same-length : tie.Need-same-length Inv-loop μ-loop
+same-length c = search needs
+
+returns : tie.Need-returns Inv-loop μ-loop
+returns c = (rw (take-all _ _ (c .loop-test .left)) at (c .before .loop .inv .3), omega arith)
+
+pub put-kept-fields-spec : {M : Type 1} → statement M
+put-kept-fields-spec =
+    tie.close
+    (tie.spec
+    Inv-loop
+    μ-loop
+    loop-holds
+    cast-put-position
+    shared-slice-read-put-position
+    put-position-requires
+    add-i
+    loop-less
+    loop-again
+    same-length
+    returns)
