@@ -1,7 +1,6 @@
 // The words of a table, as a line writes them: numbers, `A..B` for the numbers from A to B, and `C*( .. )` for a group that
 // is repeated C times. An entry of a group is a number, or `A+D` for A + i * D in the i-th repetition, i from 0.
-ghost use mathlib.Core.Path.{_≡_};
-ghost use Prim.Native.Nat.{_≤_, _<_};
+ghost use Prim.Native.Nat.{_≤_};
 ghost use lib.ListN.{length};
 ghost use Rattle.cases.specs.Scan.{Between, Laid};
 use crate::scan::Number;
