@@ -1,12 +1,11 @@
 -- Chains as data, and as the test `leads` finds them: two numbers that lead to one another are on a cycle, and one on a
 -- cycle has a last step back to itself.
-use Prim.Native.Nat.{ℕ, _<_, _≤_}
-use native.Mathlib.Omega.{arith}
+use Prim.Native.Nat.{ℕ, _<_}
 use mathlib.Core.Path.{_≡_, refl, sym, subst}
-use mathlib.Core.Bool.{Bool, true, false, _&&_, _||_}
+use mathlib.Core.Bool.{Bool, true, _&&_}
 use mathlib.Core.Logic.{_⊎_, inl, inr}
 use mathlib.Core.List.{List, [], _∷_, List·Memᴰ, List·Memᴰ·head, List·Memᴰ·tail, List·Memᴰ·cases-cons, List·Memᴰ·not-nil}
-use Rattle.paper.specs.Order.{leads, onCycle}
+use Rattle.paper.specs.Order.{leads}
 use Rattle.paper.proofs.Bools.{both, and-left, and-right, or-left, or-right, or-cases, pick}
 use Rattle.net.specs.Prior.{upTo}
 use Rattle.ordering.specs.Graph.{Graph}

@@ -4,20 +4,20 @@ use Prim.Native.Nat.{ℕ, zero, suc, _+_, _-_, _<_, _≤_}
 use native.Mathlib.Omega.{arith}
 use native.Mathlib.Numerals.{add-one}
 use mathlib.Core.Path.{_≡_, refl, sym, subst, ap, _∙_}
-use mathlib.Core.Bool.{Bool, true, false, cond, _&&_, _||_, not}
+use mathlib.Core.Bool.{Bool, true, false, _&&_, not}
 use mathlib.Core.List.{List, [], _∷_, _++_, append-nil}
 use lib.Dec.{eqb}
 use lib.ListN.{length, getD, set, take, drop, replicate, length-set, length-map, length-replicate, getD-replicate, take-append-drop, List·getD-eq-default}
 use lib.Seq.{getD-set-same, getD-set-other, take-suc-set, append-snoc, drop-set-lt, drop-drop, length-take-le}
 use borrow.Author.Tests.{eq-eqb, ne-eqb, not-true}
-use Rattle.paper.specs.Lists.{anyOf, those}
+use Rattle.paper.specs.Lists.{those}
 use Rattle.paper.specs.Order.{isReady, greedyBy}
 use Rattle.paper.proofs.Bools.{and-left, and-right}
 use Rattle.paper.proofs.Lists.{those-le, those-lt, those-all, to-those}
-use Rattle.net.specs.Prior.{upTo, prior}
-use Rattle.ordering.specs.Prior.{ordered, labelled, written, Filled}
-use Rattle.ordering.specs.Graph.{Graph, Next, free, leftOf, slots, Started}
-use Rattle.ordering.specs.Placing.{Blocked, State, Lowest, rest, Placing}
+use Rattle.net.specs.Prior.{upTo}
+use Rattle.ordering.specs.Prior.{labelled, written}
+use Rattle.ordering.specs.Graph.{Graph, free, leftOf, slots, Started}
+use Rattle.ordering.specs.Placing.{State, Lowest, rest, Placing}
 use Rattle.ordering.proofs.Tests.{by-eq, by-lt, never}
 use Rattle.ordering.proofs.Kept.{in-upTo, length-upTo, those-those, those-same, some-kept, none-some, none-kept, first-kept}
 
@@ -31,7 +31,8 @@ module _ (a : ℕ) (some : a ≡ 0 → ⊥) (k : ℕ) (mark : List ℕ) (long : 
   unfolding free
   freed i =
       by-eq i k
-      (λ e. ap (λ z. eqb z 0) (ap (λ z. getD (set mark k a) z 0) e ∙ getD-set-same mark k a 0 long) ∙ ne-eqb a 0 some ∙ sym (and-no (eqb (getD mark i 0) 0) (eqb i k) (eq-eqb i k e)))
+      (λ e. ap (λ z. eqb z 0) (ap (λ z. getD (set mark k a) z 0) e ∙ getD-set-same mark k a 0 long) ∙ ne-eqb a 0 some
+      ∙ sym (and-no (eqb (getD mark i 0) 0) (eqb i k) (eq-eqb i k e)))
       (λ d. ap (λ z. eqb z 0) (getD-set-other mark k i a 0 d) ∙ sym (and-yes (eqb (getD mark i 0) 0) (eqb i k) (ne-eqb i k d)))
     where
       and-no : (a b : Bool) → b ≡ true → (a && not b) ≡ false
@@ -48,7 +49,8 @@ module _ (a : ℕ) (some : a ≡ 0 → ⊥) (k : ℕ) (mark : List ℕ) (long : 
   pub left-after : (n : ℕ) → those (λ i. not (eqb i k)) (leftOf n mark) ≡ leftOf n (set mark k a)
   unfolding leftOf
   left-after n =
-      those-those (λ i. not (eqb i k)) (free mark) (upTo n) ∙ those-same (λ i. free mark i && not (eqb i k)) (free (set mark k a)) (upTo n) (λ i t. sym (freed i))
+      those-those (λ i. not (eqb i k)) (free mark) (upTo n)
+      ∙ those-same (λ i. free mark i && not (eqb i k)) (free (set mark k a)) (upTo n) (λ i t. sym (freed i))
 
   pub left-shorter : (n : ℕ) → k < n → free mark k ≡ true → length (leftOf n (set mark k a)) < length (leftOf n mark)
   unfolding leftOf
@@ -97,7 +99,9 @@ module _ (g : Graph) where
       lows = s .lows;
       within = s .within;
       clear = λ j hj i hi t e. s .clear j hj i hi t (was i e);
-      awaits = λ j hj hw e. let b = s .awaits j hj hw (was (getD wait j 0) e) in record { inside = b .inside; waiting = e; because = b .because; seen = b .seen };
+      awaits = λ j hj hw e.
+          let b = s .awaits j hj hw (was (getD wait j 0) e) in
+          record { inside = b .inside; waiting = e; because = b .because; seen = b .seen };
       blocked = λ j hj e. let b = s .blocked j (below j hj e) (was j e) in record {
         inside = b .inside;
         waiting = still (getD wait j 0) (b .waiting) (λ q. omega (arith, b .seen, ap (λ (z : ℕ). getD low z 0) q));
@@ -138,7 +142,9 @@ module _ (g : Graph) where
       size = length-set out count (getD chosen k 0) ∙ p .size;
       counted = let z = shorter in omega (arith, p .counted);
       sofar = p .sofar ∙ one;
-      behind = drop-set-lt (count + 1) out count (getD chosen k 0) (omega arith) ∙ sym (drop-drop 1 count out) ∙ ap (drop 1) (p .behind) ∙ drop-drop 1 count out₀;
+      behind =
+          drop-set-lt (count + 1) out count (getD chosen k 0) (omega arith) ∙ sym (drop-drop 1 count out)
+          ∙ ap (drop 1) (p .behind) ∙ drop-drop 1 count out₀;
     }
       where
         head : (js : List ℕ) × (those (isReady (g .before) (leftOf (g .size) placed)) (leftOf (g .size) placed) ≡ k ∷ js)
@@ -153,13 +159,15 @@ module _ (g : Graph) where
         more : List ℕ
         more = labelled chosen (rest g (g .size - (count + 1)) (leftOf (g .size) (set placed k 1)))
 
-        one : take count out ++ labelled chosen (rest g (g .size - count) (leftOf (g .size) placed)) ≡ take (count + 1) (set out count (getD chosen k 0)) ++ more
+        one : take count out ++ labelled chosen (rest g (g .size - count) (leftOf (g .size) placed))
+            ≡ take (count + 1) (set out count (getD chosen k 0)) ++ more
         one =
             ap (λ m. take count out ++ labelled chosen (rest g m (leftOf (g .size) placed))) fuel
             ∙ ap (λ l. take count out ++ labelled chosen l) (rest-step (g .size - (count + 1)) (leftOf (g .size) placed) k (head .0) (head .1))
             ∙ ap (λ l. take count out ++ labelled chosen (k ∷ rest g (g .size - (count + 1)) l)) (left-after 1 (λ e. omega arith) k placed long (g .size))
             ∙ sym (append-snoc (take count out) (getD chosen k 0) more)
-            ∙ ap (λ l. l ++ more) (sym (take-suc-set out count (getD chosen k 0) inside) ∙ ap (λ i. take i (set out count (getD chosen k 0))) (sym (add-one count)))
+            ∙ ap (λ l. l ++ more) (sym (take-suc-set out count (getD chosen k 0) inside)
+            ∙ ap (λ i. take i (set out count (getD chosen k 0))) (sym (add-one count)))
 
   -- nothing is ready
   pub placing-done : (chosen : List ℕ) (count k : ℕ) (placed finger wait low out₀ out : List ℕ) → State g k placed finger wait low

@@ -3,14 +3,14 @@
 use Prim.Native.Nat.{ℕ, _+_, _<_, _≤_}
 use native.Mathlib.Omega.{arith}
 use mathlib.Core.Path.{_≡_, refl, sym, subst, ap, _∙_}
-use mathlib.Core.Bool.{Bool, true, false, cond, _&&_, _||_}
+use mathlib.Core.Bool.{true, false, _&&_, _||_}
 use mathlib.Core.List.{List}
 use lib.Dec.{ltb}
 use borrow.Author.Tests.{ltb-true, lt-ltb}
 use Rattle.paper.specs.Lists.{anyOf}
 use Rattle.paper.proofs.Bools.{both, and-left, and-right, or-left, or-right, or-cases, not-so, same-answer, pick}
 use Rattle.paper.proofs.Lists.{to-any, of-any}
-use Rattle.table.specs.Rows.{kindOf, endOf, Nested}
+use Rattle.table.specs.Rows.{kindOf, endOf}
 use Rattle.net.specs.Prior.{upTo, lastOf, isGuarded, guardOf, starReads, isFrozen}
 use Rattle.net.specs.Net.{Tree}
 use Rattle.net.proofs.Last.{Last, last-of}

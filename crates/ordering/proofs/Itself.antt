@@ -49,16 +49,19 @@ module _ (rows reads chosen : List ℕ) (j : ℕ) where
   pub below-none : (s : ℕ) → s ≤ 0 → below s ≡ false
   below-none s h = not-so _ (λ e. let z = some-star rows reads chosen s (fromOf rows s) (length chosen) j e in omega arith)
 
-  module _ (net : List ℕ) (#N : ℕ) (ready : Ready rows reads chosen net #N) (s : ℕ) (P : Place rows chosen #N s (fromOf rows s) (length chosen)) (h : 0 < s) where
+  module _ (net : List ℕ) (#N : ℕ) (ready : Ready rows reads chosen net #N) (s : ℕ)
+      (P : Place rows chosen #N s (fromOf rows s) (length chosen)) (h : 0 < s) where
     pub below-read : readsAny reads (fromOf rows s) (stopOf rows s) (varOf rows chosen j) ≡ true → below s ≡ true
     below-read e = joins rows reads chosen s (fromOf rows s) (length chosen) j h (readLater e)
 
-    pub below-outer : readsAny reads (fromOf rows s) (stopOf rows s) (varOf rows chosen j) ≡ false → j < length chosen → below (getD net (guardsFrom + s) 0) ≡ below s
+    pub below-outer : readsAny reads (fromOf rows s) (stopOf rows s) (varOf rows chosen j) ≡ false → j < length chosen
+        → below (getD net (guardsFrom + s) 0) ≡ below s
     below-outer e hj = same-answer _ _ (λ q. inner (parts rows reads chosen s (stopOf rows s) (length chosen) j (around-it .old j q)))
         (λ q. by (below (getD net (guardsFrom + s) 0)) (λ t. t)
         (λ f. absurd (let z = around-it .only j hj (past (parts rows reads chosen s (fromOf rows s) (length chosen) j q)) f .0 in omega arith)))
       where
-        around-it : After rows reads chosen #N s (stopOf rows s) (length chosen) (getD net (guardsFrom + s) 0) (fromOf rows (getD net (guardsFrom + s) 0)) (length chosen)
+        around-it : After rows reads chosen #N s (stopOf rows s) (length chosen) (getD net (guardsFrom + s) 0)
+            (fromOf rows (getD net (guardsFrom + s) 0)) (length chosen)
         around-it = outer rows reads chosen net #N ready s P h
 
         inner : Part rows reads chosen s (stopOf rows s) (length chosen) j → below s ≡ true

@@ -1,7 +1,7 @@
 -- How the state of the placing changes: a number is visited and found placed, waiting, blocked or ready.
 use Prim.Native.Nat.{ℕ, _+_, _<_, _≤_}
 use native.Mathlib.Omega.{arith}
-use mathlib.Core.Path.{_≡_, refl, sym, subst, ap, _∙_}
+use mathlib.Core.Path.{_≡_, refl, sym, subst, _∙_}
 use mathlib.Core.Bool.{Bool, true, false, _&&_}
 use mathlib.Core.List.{List}
 use lib.Dec.{ltb}
@@ -78,7 +78,8 @@ module _ (g : Graph) (k : ℕ) (placed finger wait low : List ℕ) (s : State g 
     visit-ready e p f l x out = record {
       state = moved h f l x low refl (λ i. omega arith) (λ hl. absurd (omega arith));
       passed = λ q. never _ e q;
-      ready = λ _. (p, subst (λ z. (i : ℕ) → i < g .size → g .passed k z i ≡ true) (sym (getD-set-same finger k f 0 (omega (arith, s .small, s .fingers)))) (x .out out));
+      ready = λ _.
+          (p, subst (λ z. (i : ℕ) → i < g .size → g .passed k z i ≡ true) (sym (getD-set-same finger k f 0 (omega (arith, s .small, s .fingers)))) (x .out out));
     }
 
     pub visit-blocked : r ≡ false → (f l : ℕ) → Next g (free placed) k (getD finger k 0) f l → l < g .size → (low′ : List ℕ) → Lowered low l k low′

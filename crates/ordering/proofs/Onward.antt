@@ -1,11 +1,11 @@
 -- From a place to the place after it: past a number, into the next read, out to the star around. What lay from the one on
 -- lies from the other on, but for the number passed.
-use Prim.Native.Nat.{ℕ, suc, _+_, _*_, _-_, _<_, _≤_}
+use Prim.Native.Nat.{ℕ, suc, _+_, _-_, _<_, _≤_}
 use native.Mathlib.Omega.{arith}
 use native.Mathlib.Numerals.{add-one}
-use mathlib.Core.Path.{_≡_, refl, sym, subst, ap, _∙_}
-use mathlib.Core.Bool.{Bool, true, false, cond, _&&_, _||_, not}
-use mathlib.Core.List.{List, _∷_}
+use mathlib.Core.Path.{_≡_, refl, sym, ap, _∙_}
+use mathlib.Core.Bool.{Bool, true, false, _&&_, _||_, not}
+use mathlib.Core.List.{List}
 use lib.Dec.{eqb, ltb, leb}
 use lib.ListN.{length, getD, take, drop}
 use lib.Seq.{drop-cons}
@@ -13,9 +13,9 @@ use borrow.Author.Tests.{eq-eqb, ne-eqb, eqb-true, lt-ltb, ltb-true, le-leb, leb
 use Rattle.paper.specs.Lists.{anyOf}
 use Rattle.paper.proofs.Bools.{both, and-left, and-right, or-left, or-right, or-cases, same-answer, pick}
 use Rattle.table.specs.First.{first}
-use Rattle.table.specs.Rows.{kindOf, argOf, endOf, fromOf}
+use Rattle.table.specs.Rows.{kindOf, argOf, fromOf}
 use Rattle.table.proofs.First.{first-le, first-at, first-below}
-use Rattle.net.specs.Prior.{starReads, isFrozen, guardOf}
+use Rattle.net.specs.Prior.{starReads, guardOf}
 use Rattle.net.specs.Net.{firstWith, guardsFrom, nextsFrom, firstsFrom}
 use Rattle.ordering.specs.Prior.{Ready}
 use Rattle.ordering.specs.Places.{stopOf, readsAny, around, packed, varOf, pending, ahead, Place, After}
@@ -164,7 +164,12 @@ module _ (rows reads chosen : List ℕ) where
     -- all numbers of a read are passed: the next read, and the first number of its variable
     pub after-read : length chosen ≤ k → r < stopOf rows s → After rows reads chosen #N s r k s (r + 1) (getD net (firstsFrom + getD reads r 0) 0)
     after-read l m = rw (ready .netted .firsts v (ready .variables r (let z = stop-in in omega arith))) (record {
-      place = record { star = P .star; kind = P .kind; read = λ _. let z = stop-in in omega (arith, ready .few); number = with-in rows chosen v 0 (omega arith) .1 };
+      place = record {
+        star = P .star;
+        kind = P .kind;
+        read = λ _. let z = stop-in in omega (arith, ready .few);
+        number = with-in rows chosen v 0 (omega arith) .1;
+      };
       old = λ i e. joins s r k i h (old i (parts s (r + 1) start i e));
       less = omega (arith, ahead-is s r k h, ahead-is s (r + 1) start h, ready .choice .few);
       only = λ i hi e f. never _ (joins s (r + 1) start i h (new i hi (parts s r k i e))) f;
@@ -228,7 +233,9 @@ module _ (rows reads chosen : List ℕ) where
             number = omega arith;
           };
           old = λ i e. joins s r k i h (readAround (w .outward (varOf rows chosen i) ∙ sym (opened (guardOf rows s) i o) ∙ e));
-          less = let z = stop in omega (arith, w .below, ready .few, ahead-is s r k h, ahead-is (guardOf rows s) (fromOf rows (guardOf rows s)) (length chosen) o);
+          less =
+              let z = stop in
+              omega (arith, w .below, ready .few, ahead-is s r k h, ahead-is (guardOf rows s) (fromOf rows (guardOf rows s)) (length chosen) o);
           only = λ i hi e f. never _ (opened (guardOf rows s) i o ∙ sym (w .outward (varOf rows chosen i)) ∙ from-here i e) f;
         }
           where

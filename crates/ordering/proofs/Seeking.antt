@@ -1,18 +1,18 @@
 -- A search from place to place, and the finger that it ends with; the finger that each number starts with.
-use Prim.Native.Nat.{ℕ, _+_, _*_, _/_, _%_, _<_, _≤_}
+use Prim.Native.Nat.{ℕ, _+_, _/_, _%_, _<_, _≤_}
 use native.Mathlib.Omega.{arith}
 use mathlib.Core.Path.{_≡_, refl, sym, subst, ap, _∙_}
-use mathlib.Core.Bool.{Bool, true, false, _&&_, _||_, not}
+use mathlib.Core.Bool.{Bool, true, false, _&&_, not}
 use mathlib.Core.List.{List}
 use lib.Dec.{eqb, ltb}
 use lib.ListN.{length, getD, set, length-set}
-use borrow.Author.Tests.{eq-eqb, ne-eqb, lt-ltb, le-ltb, ltb-true, not-true, not-false}
+use borrow.Author.Tests.{ne-eqb, lt-ltb, le-ltb, ltb-true, not-true, not-false}
 use Rattle.paper.proofs.Bools.{both, and-left, and-right, not-so}
 use Rattle.table.specs.Rows.{kindOf, fromOf}
-use Rattle.net.specs.Prior.{starReads, isFrozen, together, prior}
+use Rattle.net.specs.Prior.{isFrozen, prior}
 use Rattle.ordering.specs.Prior.{Ready}
 use Rattle.ordering.specs.Graph.{Graph, Next, free, outside, slots, Started}
-use Rattle.ordering.specs.Places.{stopOf, around, packed, varOf, calls, startOf, AtStart, Place, pending, After, PlaceOf, Sought, passedOf, fingerOf, graphOf}
+use Rattle.ordering.specs.Places.{packed, varOf, calls, startOf, AtStart, pending, After, PlaceOf, Sought, passedOf, fingerOf, graphOf}
 use Rattle.ordering.proofs.Tests.{by, by-eq, never, at-set}
 use Rattle.ordering.proofs.Guards.{frozen-is}
 use Rattle.ordering.proofs.Onward.{chained, joins, some-star, opened}
@@ -104,7 +104,12 @@ module _ (rows reads chosen : List ℕ) (#N : ℕ) where
         ended : SoughtTo 0 0 0
         ended = record {
           at = record {
-            place = record { star = let z = x .at .place .star in omega arith; kind = λ q. absurd (omega arith); read = λ q. absurd (omega arith); number = omega arith };
+            place = record {
+              star = let z = x .at .place .star in omega arith;
+              kind = λ q. absurd (omega arith);
+              read = λ q. absurd (omega arith);
+              number = omega arith;
+            };
             frozen = λ i q. never _ q (gone 0 0 0 refl i);
           };
           none = λ i hi b c q. x .none i hi b (gone s r k e i) q;
@@ -131,7 +136,8 @@ module _ (rows reads chosen : List ℕ) (#N : ℕ) where
         ∙ sym (frozen-is rows reads #N (ready .choice .tree) (ready .guarded) (getD chosen j 0) (varOf rows chosen i) (let z = own-in in omega arith)
         (ready .choice .candidates j hj))
 
-    start-parts : (startOf rows chosen j / 4294967296 ≡ own) × (startOf rows chosen j / 65536 % 65536 ≡ fromOf rows own) × (startOf rows chosen j % 65536 ≡ length chosen)
+    start-parts : (startOf rows chosen j / 4294967296 ≡ own) × (startOf rows chosen j / 65536 % 65536 ≡ fromOf rows own)
+        × (startOf rows chosen j % 65536 ≡ length chosen)
     unfolding startOf
     start-parts = unpacked own (fromOf rows own) (length chosen) (let z = from-in in omega arith) (let z = ready .choice .few in omega arith)
 
@@ -151,7 +157,8 @@ module _ (rows reads chosen : List ℕ) (#N : ℕ) where
         let none : pending rows reads chosen own (fromOf rows own) (length chosen) i ≡ false = rw (s .0, s .1, s .2) at gone in
         not-so _ (λ p. never _ (and-left (isFrozen rows reads (getD chosen j 0) (varOf rows chosen i)) _ p) (sym (all-frozen i) ∙ none))
 
-  pub started : (net finger : List ℕ) → Ready rows reads chosen net #N → AtStart rows chosen (length chosen) finger → Started (graphOf rows reads chosen #N) finger
+  pub started : (net finger : List ℕ) → Ready rows reads chosen net #N → AtStart rows chosen (length chosen) finger
+      → Started (graphOf rows reads chosen #N) finger
   started net finger ready a = record {
     size = a .size;
     within = λ j h. subst (fingerOf rows reads chosen #N j) (sym (a .starts j h)) (start-place net ready j h);

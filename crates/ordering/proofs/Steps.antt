@@ -1,8 +1,8 @@
 -- What a step of the walk asks, and its four ends; the walk from a new root, and what best is when all is done.
-use Prim.Native.Nat.{ℕ, _+_, _*_, _-_, _<_, _≤_}
+use Prim.Native.Nat.{ℕ, _+_, _-_, _<_, _≤_}
 use native.Mathlib.Omega.{arith}
 use mathlib.Core.Path.{_≡_, refl, sym, subst, ap, _∙_}
-use mathlib.Core.Bool.{Bool, true, false, _&&_, not}
+use mathlib.Core.Bool.{true, false}
 use mathlib.Core.List.{List}
 use lib.Dec.{eqb}
 use lib.ListN.{length, getD, set, replicate, length-replicate, getD-replicate}
@@ -46,7 +46,7 @@ module _ (g : Graph) (mark stack bound finger : List ℕ) (len top at : ℕ) (P 
   -- the four ends of a step
   module _ (best : ℕ) (B : Best g mark best) where
     pub step-pop : at ≡ base bound top → (mark′ : List ℕ) (r : ℕ) → Finished mark stack (base bound top) len mark′ → Counted stack (base bound top) len best r
-        → Stepped g mark mark′ stack bound finger (weight g mark top at) (base bound top) (top - 1) (base bound top) r
+        → Stepped g mark mark′ stack bound finger top at (base bound top) (top - 1) (base bound top) r
     unfolding weight
     step-pop ran mark′ r w c = record {
       path = pop g mark stack bound finger len top at P h ran mark′ w;
@@ -55,7 +55,8 @@ module _ (g : Graph) (mark stack bound finger : List ℕ) (len top at : ℕ) (P 
       less = omega (arith, ap length (same-left g mark stack bound finger len top at P h ran mark′ w));
     }
 
-    module _ (u : base bound top < at) (f l : ℕ) (x : Next g (outside mark (base bound top)) (getD stack (at - 1) 0) (getD finger (getD stack (at - 1) 0) 0) f l) where
+    module _ (u : base bound top < at) (f l : ℕ)
+        (x : Next g (outside mark (base bound top)) (getD stack (at - 1) 0) (getD finger (getD stack (at - 1) 0) 0) f l) where
       abbrev finger′ : List ℕ
       finger′ = set finger (getD stack (at - 1) 0) f
 
@@ -66,7 +67,7 @@ module _ (g : Graph) (mark stack bound finger : List ℕ) (len top at : ℕ) (P 
       down : l < g .size → (p : ℕ) → p < len → Chain g l (getD stack p 0)
       down hl p hp = step hl (x .hit hl .1) (leads-all g mark stack bound finger len top at P h u p hp)
 
-      pub step-back : g .size ≤ l → Stepped g mark mark stack bound finger′ (weight g mark top at) len top (at - 1) best
+      pub step-back : g .size ≤ l → Stepped g mark mark stack bound finger′ top at len top (at - 1) best
       unfolding weight
       step-back e = record {
         path = back g mark stack bound finger′ len top at turned h u
@@ -81,7 +82,7 @@ module _ (g : Graph) (mark stack bound finger : List ℕ) (len top at : ℕ) (P 
       push-room hl new = let z = len-in g mark stack bound finger len top at P l hl new (down hl) in (z, omega (arith, P .tops))
 
       pub step-push : l < g .size → getD mark l 0 ≡ 0
-          → Stepped g mark (set mark l (len + 2)) (set stack len l) (set bound top len) finger′ (weight g mark top at) (len + 1) (top + 1) (len + 1) best
+          → Stepped g mark (set mark l (len + 2)) (set stack len l) (set bound top len) finger′ top at (len + 1) (top + 1) (len + 1) best
       unfolding weight
       step-push hl new = record {
         path = push g mark stack bound finger′ len top at turned l hl new (down hl);
@@ -98,7 +99,7 @@ module _ (g : Graph) (mark stack bound finger : List ℕ) (len top at : ℕ) (P 
           long = omega (arith, P .small, P .marks)
 
       pub step-merge : l < g .size → (getD mark l 0 ≡ 0 → ⊥) → (t : ℕ) → Merged bound top (getD mark l 0 - 2) t
-          → Stepped g mark mark stack bound finger′ (weight g mark top at) len t at best
+          → Stepped g mark mark stack bound finger′ top at len t at best
       unfolding weight
       step-merge hl old t w =
           let o = outside-yes mark (base bound top) l (x .hit hl .0) in
@@ -196,7 +197,8 @@ best-first g mark stack bound finger best P B all =
     done : (i : ℕ) → i < g .size → getD mark i 0 ≡ 1
     done i hi =
         by-eq (getD mark i 0) 1 (λ e. e)
-        (λ d. let t = two-up (getD mark i 0) (eqb-false (getD mark i 0) 0 (all i hi)) d in absurd (let o = P .off i hi (getD mark i 0 - 2) (omega arith) .0 in omega arith))
+        (λ d. let t = two-up (getD mark i 0) (eqb-false (getD mark i 0) 0 (all i hi)) d in
+        absurd (let o = P .off i hi (getD mark i 0 - 2) (omega arith) .0 in omega arith))
 
     none : (k : ℕ) → k < g .size → k < best → ringed g k ≡ false
     none k hk l = not-so _ (λ e. let z = B .least k hk (done k hk) e in omega arith)

@@ -1,10 +1,10 @@
 -- How the path changes: a finger moves on or has run out, segments join, a new number is put on the path.
 use Prim.Native.Nat.{ℕ, _+_, _-_, _<_, _≤_}
 use native.Mathlib.Omega.{arith}
-use mathlib.Core.Path.{_≡_, refl, sym, subst, ap, _∙_}
-use mathlib.Core.Bool.{Bool, true, false, _&&_, not}
+use mathlib.Core.Path.{_≡_, sym, subst, ap, _∙_}
+use mathlib.Core.Bool.{true, false, not}
 use mathlib.Core.List.{List}
-use lib.Dec.{eqb, ltb}
+use lib.Dec.{eqb}
 use lib.ListN.{length, getD, set, length-set}
 use lib.Seq.{getD-set-same, getD-set-other}
 use borrow.Author.Tests.{eq-eqb, ne-eqb, lt-ltb, le-ltb}
@@ -146,7 +146,8 @@ module _ (g : Graph) (mark stack bound finger : List ℕ) (len top at : ℕ) (P 
         tops = omega (arith, w .below, P .tops);
         reach = λ p q hp hq ab. by-lt p (getD bound t 0)
             (λ l. P .reach p q hp hq (λ k hk bk. by-lt k t (λ kt. ab k kt bk) (λ tk. absurd (above-t p l k hk tk bk))))
-            (λ l. chains-join g (P .reach (getD mark f 0 - 2) q (there .0) hq (λ k hk bk. by-lt k t (λ kt. ab k kt (let z = P .rising k t kt fewer in omega arith))
+            (λ l. chains-join g (P .reach (getD mark f 0 - 2) q (there .0) hq (λ k hk bk. by-lt k t
+            (λ kt. ab k kt (let z = P .rising k t kt fewer in omega arith))
             (λ tk. absurd (let z = w .gone k hk tk in omega arith))))
             (subst (λ z. Chain g z (getD stack p 0)) (sym (there .1)) (step hf r (leads-all p hp))));
         within = P .within;

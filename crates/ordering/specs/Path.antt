@@ -87,12 +87,12 @@ pub record Merged (bound : List ℕ) (top p t : ℕ) : Type 0 where
   pub holds : getD bound (t - 1) 0 ≤ p
   pub gone : (k : ℕ) → k < top → t ≤ k → p < getD bound k 0
 
--- what a step of the walk does, which had the weight `before`
-pub record Stepped (g : Graph) (mark mark′ stack bound finger : List ℕ) (before len top at best : ℕ) : Type 0 where
+-- what a step of the walk does, which had top₀ segments and worked on the position before at₀
+pub record Stepped (g : Graph) (mark mark′ stack bound finger : List ℕ) (top₀ at₀ len top at best : ℕ) : Type 0 where
   pub path : Walked g mark′ stack bound finger len top at
   pub best-so-far : Best g mark′ best
   pub grown : Grown g mark mark′
-  pub less : weight g mark′ top at < before
+  pub less : weight g mark′ top at < weight g mark top₀ at₀
 
 -- all that leads to root is done, and the path is empty again
 pub record Explored (g : Graph) (root : ℕ) (mark mark′ stack bound finger : List ℕ) (best : ℕ) : Type 0 where

@@ -1,6 +1,6 @@
 -- The reported order and the lowest number on a cycle, over the numbers of the chosen labels (document 01, "Reported order",
 -- refusal 13). `prior` is "before" in terms of rows.
-use Prim.Native.Nat.{ℕ, _+_, _*_, _<_, _≤_}
+use Prim.Native.Nat.{ℕ, _+_, _<_, _≤_}
 use mathlib.Core.Bool.{Bool}
 use mathlib.Core.List.{List, map, _++_}
 use mathlib.Core.Path.{_≡_}

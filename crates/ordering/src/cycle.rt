@@ -7,7 +7,7 @@ ghost use Prim.Native.Nat.{ℕ, _+_, _-_, _<_, _≤_};
 ghost use lib.ListN.{length, getD};
 ghost use Rattle.net.specs.Prior.{prior};
 ghost use Rattle.ordering.specs.Prior.{Ready, lowestCyclic};
-ghost use Rattle.ordering.specs.Path.{Walked, Best, weight, Finished, Settled, Counted, Merged, Stepped, Explored, Selfless};
+ghost use Rattle.ordering.specs.Path.{Walked, Best, Finished, Settled, Counted, Merged, Stepped, Explored, Selfless};
 ghost use Rattle.ordering.specs.Places.{readsAny, graphOf};
 use crate::fingers::seek;
 use crate::fingers::start;
@@ -91,54 +91,45 @@ fn step(
     stack: &mut [u16; 2048],
     bound: &mut [u16; 2048],
     finger: &mut [u64; 2048],
-    w: Walk,
+    mut w: Walk,
 ) -> Walk
-    requires { ⌜ Ready (now rows) (now reads) (now chosen) (now net) n × (0 < w .len) × Walked (graphOf (now rows) (now reads) (now chosen) n) (now mark) (now stack) (now bound) (now finger) (w .len) (w .top) (w .at) × Best (graphOf (now rows) (now reads) (now chosen) n) (now mark) (w .best) ⌝ }
-    ensures { λ r. ⌜ Stepped (graphOf (now (rows .entry)) (now (reads .entry)) (now (chosen .entry)) n) (now (mark .entry)) (now (mark .exit)) (now (stack .exit)) (now (bound .exit)) (now (finger .exit)) (weight (graphOf (now (rows .entry)) (now (reads .entry)) (now (chosen .entry)) n) (now (mark .entry)) (w .top) (w .at)) (r .len) (r .top) (r .at) (r .best) ⌝ }
+    requires { ⌜ Ready (now rows) (now reads) (now chosen) (now net) n × (0 < w .len)
+        × Walked (graphOf (now rows) (now reads) (now chosen) n) (now mark) (now stack) (now bound) (now finger) (w .len) (w .top) (w .at)
+        × Best (graphOf (now rows) (now reads) (now chosen) n) (now mark) (w .best) ⌝ }
+    ensures { λ r. ⌜ Stepped (graphOf (now (rows .entry)) (now (reads .entry)) (now (chosen .entry)) n) (now (mark .entry)) (now (mark .exit))
+        (now (stack .exit)) (now (bound .exit)) (now (finger .exit)) (w .top) (w .at) (r .len) (r .top) (r .at) (r .best) ⌝ }
 {
     let len = w.len;
     let top = w.top;
     let at = w.at;
-    let best = w.best;
     let b = bound[top - 1] as usize;
     if at == b {
         finish(mark, stack, b, len);
-        return Walk {
-            len: b,
-            top: top - 1,
-            at: b,
-            best: counted(stack, b, len, best),
-        };
+        w.best = counted(stack, b, len, w.best);
+        w.len = b;
+        w.top = top - 1;
+        w.at = b;
+        return w;
     }
     let j = stack[at - 1] as usize;
     let x = seek(rows, reads, chosen, net, n, mark, b, j, finger[j]);
     let l = x.number;
     finger[j] = x.finger;
     if chosen.len() <= l {
-        return Walk {
-            len: len,
-            top: top,
-            at: at - 1,
-            best: best,
-        };
+        w.at = at - 1;
+        return w;
     }
     if mark[l] == 0 {
         stack[len] = l as u16;
         mark[l] = (len + 2) as u16;
         bound[top] = len as u16;
-        return Walk {
-            len: len + 1,
-            top: top + 1,
-            at: len + 1,
-            best: best,
-        };
+        w.len = len + 1;
+        w.top = top + 1;
+        w.at = len + 1;
+        return w;
     }
-    Walk {
-        len: len,
-        top: merged(bound, top, mark[l] as usize - 2),
-        at: at,
-        best: best,
-    }
+    w.top = merged(bound, top, mark[l] as usize - 2);
+    w
 }
 
 // Walks all that leads to root, which is new.
@@ -155,8 +146,11 @@ fn explore(
     finger: &mut [u64; 2048],
     best: usize,
 ) -> usize
-    requires { ⌜ Ready (now rows) (now reads) (now chosen) (now net) n × (root < length (now chosen)) × (getD (now mark) root 0 ≡ 0) × Walked (graphOf (now rows) (now reads) (now chosen) n) (now mark) (now stack) (now bound) (now finger) 0 0 0 × Best (graphOf (now rows) (now reads) (now chosen) n) (now mark) best ⌝ }
-    ensures { λ r. ⌜ Explored (graphOf (now (rows .entry)) (now (reads .entry)) (now (chosen .entry)) n) root (now (mark .entry)) (now (mark .exit)) (now (stack .exit)) (now (bound .exit)) (now (finger .exit)) r ⌝ }
+    requires { ⌜ Ready (now rows) (now reads) (now chosen) (now net) n × (root < length (now chosen)) × (getD (now mark) root 0 ≡ 0)
+        × Walked (graphOf (now rows) (now reads) (now chosen) n) (now mark) (now stack) (now bound) (now finger) 0 0 0
+        × Best (graphOf (now rows) (now reads) (now chosen) n) (now mark) best ⌝ }
+    ensures { λ r. ⌜ Explored (graphOf (now (rows .entry)) (now (reads .entry)) (now (chosen .entry)) n) root (now (mark .entry))
+        (now (mark .exit)) (now (stack .exit)) (now (bound .exit)) (now (finger .exit)) r ⌝ }
 {
     stack[0] = root as u16;
     mark[root] = 2;
@@ -187,8 +181,11 @@ fn visit_root(
     finger: &mut [u64; 2048],
     best: usize,
 ) -> usize
-    requires { ⌜ Ready (now rows) (now reads) (now chosen) (now net) n × (root < length (now chosen)) × Walked (graphOf (now rows) (now reads) (now chosen) n) (now mark) (now stack) (now bound) (now finger) 0 0 0 × Best (graphOf (now rows) (now reads) (now chosen) n) (now mark) best ⌝ }
-    ensures { λ r. ⌜ Explored (graphOf (now (rows .entry)) (now (reads .entry)) (now (chosen .entry)) n) root (now (mark .entry)) (now (mark .exit)) (now (stack .exit)) (now (bound .exit)) (now (finger .exit)) r ⌝ }
+    requires { ⌜ Ready (now rows) (now reads) (now chosen) (now net) n × (root < length (now chosen))
+        × Walked (graphOf (now rows) (now reads) (now chosen) n) (now mark) (now stack) (now bound) (now finger) 0 0 0
+        × Best (graphOf (now rows) (now reads) (now chosen) n) (now mark) best ⌝ }
+    ensures { λ r. ⌜ Explored (graphOf (now (rows .entry)) (now (reads .entry)) (now (chosen .entry)) n) root (now (mark .entry))
+        (now (mark .exit)) (now (stack .exit)) (now (bound .exit)) (now (finger .exit)) r ⌝ }
 {
     if mark[root] == 0 {
         return explore(

@@ -2,7 +2,7 @@
 // the label's own star reads, then into what the stars of the guards around it read, and there into the chosen labels of
 // each variable read.
 ghost use mathlib.Core.Path.{_≡_};
-ghost use Prim.Native.Nat.{ℕ, _+_, _*_, _/_, _%_, _<_, _≤_};
+ghost use Prim.Native.Nat.{_+_, _*_, _/_, _%_, _<_, _≤_};
 ghost use lib.ListN.{length, getD};
 ghost use Rattle.net.specs.Prior.{together};
 ghost use Rattle.net.specs.Net.{Chosen, Net};
@@ -50,8 +50,10 @@ pub fn stop_of(rows: &[u16], star: Label) -> usize
 
 // The place after p, which has a star.
 fn onward(rows: &[u16], reads: &[u16], chosen: &[u16], net: &[u16; 11264], n: u16, p: Spot) -> Spot
-    requires { ⌜ Ready (now rows) (now reads) (now chosen) (now net) n × Place (now rows) (now chosen) n (p .star .0) (p .read) (p .next) × (0 < p .star .0) ⌝ }
-    ensures { λ q. ⌜ After (now (rows .entry)) (now (reads .entry)) (now (chosen .entry)) n (p .star .0) (p .read) (p .next) (q .star .0) (q .read) (q .next) ⌝ }
+    requires { ⌜ Ready (now rows) (now reads) (now chosen) (now net) n × Place (now rows) (now chosen) n (p .star .0) (p .read) (p .next)
+        × (0 < p .star .0) ⌝ }
+    ensures { λ q. ⌜ After (now (rows .entry)) (now (reads .entry)) (now (chosen .entry)) n (p .star .0) (p .read) (p .next) (q .star .0)
+        (q .read) (q .next) ⌝ }
 {
     let star = p.star;
     let read = p.read;
@@ -100,8 +102,11 @@ fn look_at(
     j: usize,
     seen: Seen,
 ) -> Seen
-    requires { ⌜ Chosen (now rows) (now chosen) n × Net (now rows) (now chosen) n (now net) × (k < length (now chosen)) × (j < length (now chosen)) × Apart (now rows) (now chosen) j (seen .from) (seen .to) ⌝ }
-    ensures { λ r. ⌜ Looked (now (rows .entry)) (now (chosen .entry)) (together (now (rows .entry)) (getD (now (chosen .entry)) k 0) (getD (now (chosen .entry)) j 0)) j (r .from) (r .to) (r .hit) ⌝ }
+    requires { ⌜ Chosen (now rows) (now chosen) n × Net (now rows) (now chosen) n (now net) × (k < length (now chosen))
+        × (j < length (now chosen)) × Apart (now rows) (now chosen) j (seen .from) (seen .to) ⌝ }
+    ensures { λ r. ⌜ Looked (now (rows .entry))
+        (now (chosen .entry)) (together (now (rows .entry)) (getD (now (chosen .entry)) k 0) (getD (now (chosen .entry)) j 0)) j (r .from) (r .to)
+        (r .hit) ⌝ }
 {
     let i = Label(chosen[k]);
     if seen.from <= i.0 {
@@ -133,8 +138,10 @@ fn look(
     j: usize,
     seen: Seen,
 ) -> Seen
-    requires { ⌜ Chosen (now rows) (now chosen) n × Net (now rows) (now chosen) n (now net) × (b < 2048) × (j < length (now chosen)) × Apart (now rows) (now chosen) j (seen .from) (seen .to) ⌝ }
-    ensures { λ r. ⌜ Looked (now (rows .entry)) (now (chosen .entry)) (calls (now (rows .entry)) (now (chosen .entry)) (outside (now (mark .entry)) b) k j) j (r .from) (r .to) (r .hit) ⌝ }
+    requires { ⌜ Chosen (now rows) (now chosen) n × Net (now rows) (now chosen) n (now net) × (b < 2048) × (j < length (now chosen))
+        × Apart (now rows) (now chosen) j (seen .from) (seen .to) ⌝ }
+    ensures { λ r. ⌜ Looked (now (rows .entry))
+        (now (chosen .entry)) (calls (now (rows .entry)) (now (chosen .entry)) (outside (now (mark .entry)) b) k j) j (r .from) (r .to) (r .hit) ⌝ }
 {
     if k < chosen.len() {
         if is_outside(mark, b, k) {
@@ -182,7 +189,8 @@ pub fn seek(
     finger: u64,
 ) -> Found
     requires { ⌜ Ready (now rows) (now reads) (now chosen) (now net) n × Seekable (graphOf (now rows) (now reads) (now chosen) n) b j finger ⌝ }
-    ensures { λ r. ⌜ Next (graphOf (now (rows .entry)) (now (reads .entry)) (now (chosen .entry)) n) (outside (now (mark .entry)) b) j finger (r .finger) (r .number) ⌝ }
+    ensures { λ r. ⌜ Next (graphOf (now (rows .entry)) (now (reads .entry)) (now (chosen .entry)) n) (outside (now (mark .entry)) b) j finger
+        (r .finger) (r .number) ⌝ }
 {
     let mut p = spot_of(finger);
     let mut seen = Seen {

@@ -54,8 +54,10 @@ fn visit(
     low: &mut [u16; 2048],
     k: usize,
 ) -> bool
-    requires { ⌜ Ready (now rows) (now reads) (now chosen) (now net) n × (k < length (now chosen)) × State (graphOf (now rows) (now reads) (now chosen) n) k (now placed) (now finger) (now wait) (now low) ⌝ }
-    ensures { λ r. ⌜ Visited (graphOf (now (rows .entry)) (now (reads .entry)) (now (chosen .entry)) n) k (now (placed .entry)) (now (finger .exit)) (now (wait .exit)) (now (low .exit)) r ⌝ }
+    requires { ⌜ Ready (now rows) (now reads) (now chosen) (now net) n × (k < length (now chosen))
+        × State (graphOf (now rows) (now reads) (now chosen) n) k (now placed) (now finger) (now wait) (now low) ⌝ }
+    ensures { λ r. ⌜ Visited (graphOf (now (rows .entry)) (now (reads .entry)) (now (chosen .entry)) n) k (now (placed .entry))
+        (now (finger .exit)) (now (wait .exit)) (now (low .exit)) r ⌝ }
 {
     if placed[k] != 0 {
         return false;
@@ -87,8 +89,10 @@ fn lowest_ready(
     low: &mut [u16; 2048],
     from: usize,
 ) -> usize
-    requires { ⌜ Ready (now rows) (now reads) (now chosen) (now net) n × (from ≤ length (now chosen)) × State (graphOf (now rows) (now reads) (now chosen) n) from (now placed) (now finger) (now wait) (now low) ⌝ }
-    ensures { λ r. ⌜ Lowest (graphOf (now (rows .entry)) (now (reads .entry)) (now (chosen .entry)) n) (now (placed .entry)) (now (finger .exit)) (now (wait .exit)) (now (low .exit)) r ⌝ }
+    requires { ⌜ Ready (now rows) (now reads) (now chosen) (now net) n × (from ≤ length (now chosen))
+        × State (graphOf (now rows) (now reads) (now chosen) n) from (now placed) (now finger) (now wait) (now low) ⌝ }
+    ensures { λ r. ⌜ Lowest (graphOf (now (rows .entry)) (now (reads .entry)) (now (chosen .entry)) n) (now (placed .entry)) (now (finger .exit))
+        (now (wait .exit)) (now (low .exit)) r ⌝ }
 {
     let mut k = from;
     while k < chosen.len() {

@@ -1,8 +1,8 @@
 -- The loop's invariant: the path and `best` are as they should be, and no mark went back. The measure is how far the walk has to go.
-use native.Mathlib.Omega.{arith}
 use Rattle.ordering.specs.Path.{Walked, Best, Grown, weight}
 use Rattle.ordering.specs.Places.{graphOf}
 use Rattle.ordering.proofs.Steps.{explore-path, explore-best, explore-end}
+use borrow.Author.Needs.{needs}
 use Rattle.ordering.proofs.cycle.explore.Statement.{statement}
 use Rattle.ordering.proofs.cycle.explore.Tie as tie
 
@@ -15,25 +15,19 @@ abbrev μ-loop : tie.MeasureT-loop
 μ-loop rows reads chosen net n root mark₀ stack₀ bound₀ finger₀ best w₀ mark stack bound finger w = weight (graphOf rows reads chosen n) mark (w .top) (w .at)
 
 cast-stack : tie.Need-cast-stack Inv-loop μ-loop
-cast-stack c =
-    let a = c .before .before .before .pre in
-    omega (arith, a .0 .choice .few)
+cast-stack c = search needs
 
 element-write-stack : tie.Need-element-write-stack Inv-loop μ-loop
-element-write-stack c = omega arith
+element-write-stack c = search needs
 
 mul-mark : tie.Need-mul-mark Inv-loop μ-loop
-mul-mark c =
-    let a = c .before .before .before .pre in
-    omega (arith, a .0 .choice .few)
+mul-mark c = search needs
 
 element-write-mark : tie.Need-element-write-mark Inv-loop μ-loop
-element-write-mark c =
-    let a = c .before .before .before .pre in
-    omega (arith, a .0 .choice .few)
+element-write-mark c = search needs
 
 element-write-bound : tie.Need-element-write-bound Inv-loop μ-loop
-element-write-bound c = omega arith
+element-write-bound c = search needs
 
 loop-holds : tie.Need-loop-holds Inv-loop μ-loop
 loop-holds c =
@@ -42,11 +36,14 @@ loop-holds c =
 
 step-requires : tie.Need-step-requires Inv-loop μ-loop
 step-requires c κs =
-    let v = c .before .before .before .before .before .before .loop .inv in
-    (c .before .before .before .before .before .before .before .before .before .before .pre .0, c .before .before .before .before .if1 .taken, v .0, v .1)
+    let loop = c .before .before .before .before .before .before .loop in
+    let entry = c .before .before .before .before .before .before .before .before .before .before in
+    let if1 = c .before .before .before .before .if1 in
+    let v = loop .inv in
+    (entry .pre .0, if1 .taken, v .0, v .1)
 
 loop-less : tie.Need-loop-less Inv-loop μ-loop
-loop-less c = c .step .ensures .less
+loop-less c = search needs
 
 loop-again : tie.Need-loop-again Inv-loop μ-loop
 loop-again c =

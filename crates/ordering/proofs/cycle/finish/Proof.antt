@@ -40,11 +40,14 @@ loop-less c = search needs
 
 loop-again : tie.Need-loop-again Inv-loop μ-loop
 loop-again c =
-    let v = c .before .before .before .loop .inv in (
+    let loop = c .before .before .before .loop in
+    let entry = c .before .before .before .before in
+    let loop-test = c .before .before .loop-test in
+    let v = loop .inv in (
       omega arith,
       omega arith,
       rw (c .wide .ensures) (finish-more _ _ _ _ _
-          (omega (arith, c .before .before .before .before .pre .3 _ (c .before .before .loop-test .taken), v .2 .size, c .before .before .before .before .pre .0)) (v .1) (v .2)),
+          (omega (arith, entry .pre .3 _ (loop-test .taken), v .2 .size, entry .pre .0)) (v .1) (v .2)),
     )
 
 returns : tie.Need-returns Inv-loop μ-loop

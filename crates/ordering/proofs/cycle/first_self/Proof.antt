@@ -6,6 +6,7 @@ use mathlib.Core.Bool.{false}
 use lib.ListN.{length}
 use borrow.Author.Count.{below-more}
 use Rattle.net.specs.Prior.{prior}
+use borrow.Author.Needs.{needs}
 use Rattle.ordering.proofs.cycle.first_self.Statement.{statement}
 use Rattle.ordering.proofs.cycle.first_self.Tie as tie
 
@@ -27,13 +28,16 @@ returns c =
     record { to = v .0; none = v .1; hit = λ _. sym (c .before .is-before-itself .ensures) ∙ c .if1 .taken }
 
 add-j : tie.Need-add-j Inv-loop μ-loop
-add-j c = omega (arith, c .before .before .loop-test .taken)
+add-j c = search needs
 
 loop-less : tie.Need-loop-less Inv-loop μ-loop
-loop-less c = omega (arith, c .before .before .loop-test .taken)
+loop-less c = search needs
 
 loop-again : tie.Need-loop-again Inv-loop μ-loop
-loop-again c = (omega (arith, c .before .before .loop-test .taken), below-more _ _ (c .before .before .before .loop .inv .1) (sym (c .before .is-before-itself .ensures) ∙ c .if1 .left))
+loop-again c =
+    let loop-test = c .before .before .loop-test in
+    let loop = c .before .before .before .loop in
+    (omega (arith, loop-test .taken), below-more _ _ (loop .inv .1) (sym (c .before .is-before-itself .ensures) ∙ c .if1 .left))
 
 returns-2 : tie.Need-returns-2 Inv-loop μ-loop
 returns-2 c =

@@ -1,5 +1,4 @@
 -- The loop's invariant: j lies from the first read of the star on exactly if it is before itself. The measure is the star.
-use Prim.Native.Nat.{_+_}
 use native.Mathlib.Omega.{arith}
 use mathlib.Core.Path.{_≡_, sym, ap, _∙_}
 use lib.ListN.{length}
@@ -21,10 +20,10 @@ abbrev μ-loop : tie.MeasureT-loop
 μ-loop rows reads chosen net n j v star₀ star = star .0
 
 mul-t10 : tie.Need-mul-t10 Inv-loop μ-loop
-mul-t10 c = omega (arith, c .before .before .before .pre .1, c .before .before .before .pre .0 .choice .few)
+mul-t10 c = search needs
 
 shared-slice-read-t12 : tie.Need-shared-slice-read-t12 Inv-loop μ-loop
-shared-slice-read-t12 c = omega (arith, c .before .before .before .before .pre .1)
+shared-slice-read-t12 c = search needs
 
 arg-of-requires : tie.Need-arg-of-requires Inv-loop μ-loop
 arg-of-requires c κs =
@@ -32,10 +31,10 @@ arg-of-requires c κs =
     omega (arith, a .0 .choice .below _ (a .1), a .0 .choice .tree .nested .room)
 
 mul-t10-2 : tie.Need-mul-t10-2 Inv-loop μ-loop
-mul-t10-2 c = omega (arith, c .before .before .before .before .before .pre .1, c .before .before .before .before .before .pre .0 .choice .few)
+mul-t10-2 c = search needs
 
 shared-slice-read-t9 : tie.Need-shared-slice-read-t9 Inv-loop μ-loop
-shared-slice-read-t9 c = omega (arith, c .before .before .before .before .before .before .pre .1)
+shared-slice-read-t9 c = search needs
 
 add-t12 : tie.Need-add-t12 Inv-loop μ-loop
 add-t12 c =
@@ -57,38 +56,63 @@ wide-requires c κs = search needs
 
 stop-of-requires : tie.Need-stop-of-requires Inv-loop μ-loop
 stop-of-requires c κs =
-    let P = c .before .before .before .before .loop .inv .0 in
-    omega (arith, P .star, c .before .before .before .before .before .before .before .before .before .before .before .pre .0 .choice .tree .nested .room)
+    let loop = c .before .before .before .before .loop in
+    let entry = c .before .before .before .before .before .before .before .before .before .before .before in
+    let P = loop .inv .0 in
+    omega (arith, P .star, entry .pre .0 .choice .tree .nested .room)
 
 is-read-requires : tie.Need-is-read-requires Inv-loop μ-loop
 is-read-requires c κs =
-    let P = c .before .before .before .before .before .loop .inv .0 in
-    omega (arith, c .stop-of .ensures, stop-in _ _ _ _ _ (c .before .before .before .before .before .before .before .before .before .before .before .before .pre .0) _ _ _ P (c .before .before .before .if1 .taken))
+    let loop = c .before .before .before .before .before .loop in
+    let entry = c .before .before .before .before .before .before .before .before .before .before .before .before in
+    let if1 = c .before .before .before .if1 in
+    let P = loop .inv .0 in
+    omega (arith, c .stop-of .ensures, stop-in _ _ _ _ _ (entry .pre .0) _ _ _ P (if1 .taken))
 
 returns : tie.Need-returns Inv-loop μ-loop
 returns c =
-    let v = c .before .before .before .before .before .before .before .loop .inv in
-    let e = rw (c .before .before .before .wide .ensures ∙ c .before .before .before .before .from-of .ensures, c .before .before .stop-of .ensures, c .before .before .before .before .before .before .before .before .before .arg-of .ensures) at (c .before .is-read .ensures) in
-    sym (sym (v .1) ∙ below-read _ _ _ _ _ _ (c .before .before .before .before .before .before .before .before .before .before .before .before .before .before .pre .0) _ (v .0) (c .before .before .before .before .before .if1 .taken) (sym e ∙ c .if2 .taken))
+    let loop = c .before .before .before .before .before .before .before .loop in
+    let wide = c .before .before .before .wide in
+    let from-of = c .before .before .before .before .from-of in
+    let stop-of = c .before .before .stop-of in
+    let arg-of = c .before .before .before .before .before .before .before .before .before .arg-of in
+    let entry = c .before .before .before .before .before .before .before .before .before .before .before .before .before .before in
+    let if1 = c .before .before .before .before .before .if1 in
+    let v = loop .inv in
+    let e = rw (wide .ensures ∙ from-of .ensures, stop-of .ensures, arg-of .ensures) at (c .before .is-read .ensures) in
+    sym (sym (v .1) ∙ below-read _ _ _ _ _ _ (entry .pre .0) _ (v .0) (if1 .taken) (sym e ∙ c .if2 .taken))
 
 guard-of-requires : tie.Need-guard-of-requires Inv-loop μ-loop
 guard-of-requires c κs =
-    let P = c .before .before .before .before .before .before .before .loop .inv .0 in
-    omega (arith, P .star, c .before .before .before .before .before .before .before .before .before .before .before .before .before .before .pre .0 .choice .tree .nested .few)
+    let loop = c .before .before .before .before .before .before .before .loop in
+    let entry = c .before .before .before .before .before .before .before .before .before .before .before .before .before .before in
+    let P = loop .inv .0 in
+    omega (arith, P .star, entry .pre .0 .choice .tree .nested .few)
 
 loop-less : tie.Need-loop-less Inv-loop μ-loop
 loop-less c =
-    let P = c .before .before .before .before .before .before .before .before .loop .inv .0 in
+    let loop = c .before .before .before .before .before .before .before .before .loop in
+    let entry = c .before .before .before .before .before .before .before .before .before .before .before .before .before .before .before in
+    let if1 = c .before .before .before .before .before .before .if1 in
+    let P = loop .inv .0 in
     let g = ap (λ (l : Label). l .0) (c .guard-of .ensures) in
-    omega (arith, outer-lower _ _ _ _ _ (c .before .before .before .before .before .before .before .before .before .before .before .before .before .before .before .pre .0) _ P (c .before .before .before .before .before .before .if1 .taken))
+    omega (arith, outer-lower _ _ _ _ _ (entry .pre .0) _ P (if1 .taken))
 
 loop-again : tie.Need-loop-again Inv-loop μ-loop
 loop-again c =
-    let a = c .before .before .before .before .before .before .before .before .before .before .before .before .before .before .before .pre in
-    let v = c .before .before .before .before .before .before .before .before .loop .inv in
-    let t = c .before .before .before .before .before .before .if1 .taken in
+    let entry = c .before .before .before .before .before .before .before .before .before .before .before .before .before .before .before in
+    let loop = c .before .before .before .before .before .before .before .before .loop in
+    let if1 = c .before .before .before .before .before .before .if1 in
+    let wide = c .before .before .before .before .wide in
+    let from-of = c .before .before .before .before .before .from-of in
+    let stop-of = c .before .before .before .stop-of in
+    let arg-of = c .before .before .before .before .before .before .before .before .before .before .arg-of in
+    let is-read = c .before .before .is-read in
+    let a = entry .pre in
+    let v = loop .inv in
+    let t = if1 .taken in
     let g = ap (λ (l : Label). l .0) (c .guard-of .ensures) in
-    let e = rw (c .before .before .before .before .wide .ensures ∙ c .before .before .before .before .before .from-of .ensures, c .before .before .before .stop-of .ensures, c .before .before .before .before .before .before .before .before .before .before .arg-of .ensures) at (c .before .before .is-read .ensures) in
+    let e = rw (wide .ensures ∙ from-of .ensures, stop-of .ensures, arg-of .ensures) at (is-read .ensures) in
     (rw g (outer-place _ _ _ _ _ (a .0) _ (v .0) t), rw g (below-outer _ _ _ _ _ _ (a .0) _ (v .0) t (sym e ∙ c .before .if2 .left) (a .1) ∙ v .1))
 
 returns-2 : tie.Need-returns-2 Inv-loop μ-loop

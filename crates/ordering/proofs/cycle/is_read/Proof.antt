@@ -1,6 +1,5 @@
 -- The loop's invariant: whether v is read from r on is whether it is read at all.
 use Prim.Native.Nat.{_-_}
-use native.Mathlib.Omega.{arith}
 use mathlib.Core.Path.{_≡_, refl, sym, _∙_}
 use Rattle.ordering.specs.Places.{readsAny}
 use Rattle.ordering.proofs.Onward.{reads-hit, reads-miss, reads-none}
@@ -24,7 +23,11 @@ shared-slice-read-if1 : tie.Need-shared-slice-read-if1 Inv-loop μ-loop
 shared-slice-read-if1 c = search needs
 
 returns : tie.Need-returns Inv-loop μ-loop
-returns c = sym (sym (c .before .before .before .before .loop .inv) ∙ reads-hit _ _ _ _ (c .before .before .before .loop-test .taken) (c .before .before .before .before .before .pre) (c .if1 .taken))
+returns c =
+    let loop = c .before .before .before .before .loop in
+    let loop-test = c .before .before .before .loop-test in
+    let entry = c .before .before .before .before .before in
+    sym (sym (loop .inv) ∙ reads-hit _ _ _ _ (loop-test .taken) (entry .pre) (c .if1 .taken))
 
 add-r : tie.Need-add-r Inv-loop μ-loop
 add-r c = search needs
@@ -33,7 +36,11 @@ loop-less : tie.Need-loop-less Inv-loop μ-loop
 loop-less c = search needs
 
 loop-again : tie.Need-loop-again Inv-loop μ-loop
-loop-again c = reads-miss _ _ _ _ (c .before .before .before .loop-test .taken) (c .before .before .before .before .before .pre) (c .if1 .left) ∙ c .before .before .before .before .loop .inv
+loop-again c =
+    let loop-test = c .before .before .before .loop-test in
+    let entry = c .before .before .before .before .before in
+    let loop = c .before .before .before .before .loop in
+    reads-miss _ _ _ _ (loop-test .taken) (entry .pre) (c .if1 .left) ∙ loop .inv
 
 returns-2 : tie.Need-returns-2 Inv-loop μ-loop
 returns-2 c = sym (sym (c .before .loop .inv) ∙ reads-none _ _ _ _ (c .loop-test .left))

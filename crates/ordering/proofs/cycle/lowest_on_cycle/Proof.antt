@@ -14,6 +14,7 @@ use Rattle.ordering.specs.Places.{graphOf}
 use Rattle.ordering.proofs.Tests.{never}
 use Rattle.ordering.proofs.Seeking.{started}
 use Rattle.ordering.proofs.Steps.{empty-first, best-start, best-first}
+use borrow.Author.Needs.{needs}
 use Rattle.ordering.proofs.cycle.lowest_on_cycle.Statement.{statement}
 use Rattle.ordering.proofs.cycle.lowest_on_cycle.Tie as tie
 
@@ -33,26 +34,36 @@ first-self-requires c κs = c .before .before .before .before .before .pre
 
 loop-holds : tie.Need-loop-holds Inv-loop μ-loop
 loop-holds c =
-    let R = c .before .before .before .before .before .before .pre in
-    let s = R .choice .few in
-    (omega arith, empty-first _ _ (omega arith) (started _ _ _ _ _ _ R (c .before .start .ensures)), best-start _ _ (omega arith) (c .first-self .ensures), λ i h. absurd (omega arith))
+    let entry = c .before .before .before .before .before .before in
+    let R = entry .pre in
+    let s = R .choice .few in (
+      omega arith,
+      empty-first _ _ (omega arith) (started _ _ _ _ _ _ R (c .before .start .ensures)),
+      best-start _ _ (omega arith) (c .first-self .ensures),
+      λ i h. absurd (omega arith),
+    )
 
 visit-root-requires : tie.Need-visit-root-requires Inv-loop μ-loop
 visit-root-requires c κs =
-    let v = c .before .before .before .before .before .loop .inv in
-    (c .before .before .before .before .before .before .before .before .before .before .before .before .pre, c .before .before .before .before .loop-test .taken, v .1, v .2)
+    let loop = c .before .before .before .before .before .loop in
+    let entry = c .before .before .before .before .before .before .before .before .before .before .before .before in
+    let loop-test = c .before .before .before .before .loop-test in
+    let v = loop .inv in
+    (entry .pre, loop-test .taken, v .1, v .2)
 
 add-root : tie.Need-add-root Inv-loop μ-loop
-add-root c = omega (arith, c .before .before .before .before .before .loop-test .taken)
+add-root c = search needs
 
 loop-less : tie.Need-loop-less Inv-loop μ-loop
-loop-less c = omega (arith, c .before .before .before .before .before .loop-test .taken)
+loop-less c = search needs
 
 loop-again : tie.Need-loop-again Inv-loop μ-loop
 loop-again c =
-    let v = c .before .before .before .before .before .before .loop .inv in
+    let loop = c .before .before .before .before .before .before .loop in
+    let loop-test = c .before .before .before .before .before .loop-test in
+    let v = loop .inv in
     let t = c .visit-root .ensures in
-    let l = c .before .before .before .before .before .loop-test .taken in
+    let l = loop-test .taken in
     (omega (arith, l), t .path, t .best-so-far, below-more _ _ (λ i hi. not-so _ (λ e. never _ (t .grown i (omega (arith, l)) e) (v .3 i hi))) (t .taken))
 
 returns : tie.Need-returns Inv-loop μ-loop

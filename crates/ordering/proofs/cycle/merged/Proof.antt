@@ -33,7 +33,11 @@ loop-less : tie.Need-loop-less Inv-loop μ-loop
 loop-less c = search needs
 
 loop-again : tie.Need-loop-again Inv-loop μ-loop
-loop-again c = merged-more (c .before .before .before .before .args .bound .now) (c .before .before .before .before .args .top) (c .before .before .before .before .args .p) (c .before .before .before .loop .t) (c .before .before .before .before .pre .2) (omega (arith, c .if1 .taken, c .before .wide .ensures)) (c .before .before .before .loop .inv)
+loop-again c =
+    let entry = c .before .before .before .before in
+    let loop = c .before .before .before .loop in
+    merged-more (entry .args .bound .now) (entry .args .top) (entry .args .p) (loop .t) (entry .pre .2)
+    (omega (arith, c .if1 .taken, c .before .wide .ensures)) (loop .inv)
 
 returns : tie.Need-returns Inv-loop μ-loop
 returns c =

@@ -1,6 +1,5 @@
 -- Each way out of a step has its law: the last segment is done, its number's finger has run out, a new number is put on the path,
 -- or segments join.
-use Prim.Native.Nat.{_<_}
 use native.Mathlib.Omega.{arith}
 use Rattle.ordering.proofs.Walks.{outside-yes}
 use Rattle.ordering.proofs.Steps.{ahead-of, bound-in, number-in, two-or-more, step-pop, step-back, step-push, step-merge}
@@ -35,20 +34,23 @@ finish-requires c κs =
     let s = a .0 .choice .few in
     (a .2 .marks, omega (arith, b .1), omega (arith, b .0), λ p hp. omega (arith, a .2 .on p hp .0))
 
-sub-t28 : tie.Need-sub-t28
-sub-t28 c =
-    let a = c .before .before .before .before .before .before .before .before .pre in
-    let h = a .2 .some (a .1) in
-    omega arith
-
 counted-requires : tie.Need-counted-requires
 counted-requires c κs = search needs
 
-returns : tie.Need-returns
-returns c =
+sub-w : tie.Need-sub-w
+sub-w c =
     let a = c .before .before .before .before .before .before .before .before .before .before .pre in
     let h = a .2 .some (a .1) in
-    step-pop _ _ _ _ _ _ _ _ (a .2) h _ (a .3) (c .before .before .before .before .before .if1 .taken) _ _ (c .before .before .finish .ensures) (c .counted .ensures)
+    omega arith
+
+returns : tie.Need-returns
+returns c =
+    let entry = c .before .before .before .before .before .before .before .before .before .before in
+    let if1 = c .before .before .before .before .before .if1 in
+    let finish = c .before .before .finish in
+    let a = entry .pre in
+    let h = a .2 .some (a .1) in
+    step-pop _ _ _ _ _ _ _ _ (a .2) h _ (a .3) (if1 .taken) _ _ (finish .ensures) (c .counted .ensures)
 
 sub-j : tie.Need-sub-j
 sub-j c =
@@ -112,8 +114,8 @@ element-write-finger c =
     let j = number-in _ _ _ _ _ _ _ _ (a .2) h u in
     omega (arith, a .0 .choice .few)
 
-sub-t39 : tie.Need-sub-t39
-sub-t39 c =
+sub-w-2 : tie.Need-sub-w-2
+sub-w-2 c =
     let a = c .before .before .before .before .before .before .before .before .before .before .pre in
     let h = a .2 .some (a .1) in
     let u = ahead-of _ _ _ _ _ _ _ _ (a .2) h (c .before .before .before .before .before .if1 .left) in
@@ -162,14 +164,14 @@ mul-bound c = search needs
 element-write-bound : tie.Need-element-write-bound
 element-write-bound c = search needs
 
-add-t46 : tie.Need-add-t46
-add-t46 c = search needs
+add-w : tie.Need-add-w
+add-w c = search needs
 
-add-t43 : tie.Need-add-t43
-add-t43 c = search needs
+add-w-2 : tie.Need-add-w-2
+add-w-2 c = search needs
 
-add-t51 : tie.Need-add-t51
-add-t51 c = search needs
+add-w-3 : tie.Need-add-w-3
+add-w-3 c = search needs
 
 returns-3 : tie.Need-returns-3
 returns-3 c =
@@ -208,10 +210,15 @@ merged-requires c κs =
 
 returns-4 : tie.Need-returns-4
 returns-4 c =
-    let a = c .before .before .before .before .before .before .before .before .before .before .before .before .before .before .before .pre in
+    let entry = c .before .before .before .before .before .before .before .before .before .before .before .before .before .before .before in
+    let if1 = c .before .before .before .before .before .before .before .before .before .before .if1 in
+    let seek = c .before .before .before .before .before .before .seek in
+    let if2 = c .before .before .before .before .before .if2 in
+    let if3 = c .before .before .before .if3 in
+    let a = entry .pre in
     let h = a .2 .some (a .1) in
-    let u = ahead-of _ _ _ _ _ _ _ _ (a .2) h (c .before .before .before .before .before .before .before .before .before .before .if1 .left) in
-    step-merge _ _ _ _ _ _ _ _ (a .2) h _ (a .3) u _ _ (c .before .before .before .before .before .before .seek .ensures) (c .before .before .before .before .before .if2 .left) (c .before .before .before .if3 .left) _ (c .merged .ensures)
+    let u = ahead-of _ _ _ _ _ _ _ _ (a .2) h (if1 .left) in
+    step-merge _ _ _ _ _ _ _ _ (a .2) h _ (a .3) u _ _ (seek .ensures) (if2 .left) (if3 .left) _ (c .merged .ensures)
 
 pub step-spec : {M : Type 1} → statement M
 step-spec =
@@ -222,8 +229,8 @@ step-spec =
     element-copy-out-b
     cast-b
     finish-requires
-    sub-t28
     counted-requires
+    sub-w
     returns
     sub-j
     mul-j
@@ -234,7 +241,7 @@ step-spec =
     seek-requires
     mul-finger
     element-write-finger
-    sub-t39
+    sub-w-2
     returns-2
     mul-if3
     element-copy-out-if3
@@ -248,9 +255,9 @@ step-spec =
     cast-bound
     mul-bound
     element-write-bound
-    add-t46
-    add-t43
-    add-t51
+    add-w
+    add-w-2
+    add-w-3
     returns-3
     mul-merged
     element-copy-out-merged

@@ -12,7 +12,10 @@ look-at-requires : tie.Need-look-at-requires
 look-at-requires c κs = search needs
 
 returns : tie.Need-returns
-returns c = look-open _ _ _ _ _ _ _ _ (c .before .before .before .if1 .taken) (sym (c .before .before .is-outside .ensures) ∙ c .before .if2 .taken) (c .look-at .ensures)
+returns c =
+    let if1 = c .before .before .before .if1 in
+    let is-outside = c .before .before .is-outside in
+    look-open _ _ _ _ _ _ _ _ (if1 .taken) (sym (is-outside .ensures) ∙ c .before .if2 .taken) (c .look-at .ensures)
 
 returns-2 : tie.Need-returns-2
 returns-2 c = look-shut _ _ _ _ _ _ _ (sym (c .before .is-outside .ensures) ∙ c .if2 .left) (c .before .before .before .before .before .pre .4)

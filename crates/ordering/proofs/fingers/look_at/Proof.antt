@@ -1,6 +1,5 @@
 -- A label that is known to share no branch is not asked about; any other is, and what its answer rules out is kept.
 use native.Mathlib.Omega.{arith}
-use lib.ListN.{getD}
 use Rattle.ordering.proofs.Looking.{look-known, look-asked}
 use borrow.Author.Needs.{needs}
 use Rattle.ordering.proofs.fingers.look_at.Statement.{statement}
@@ -13,7 +12,10 @@ shared-slice-read-t12 : tie.Need-shared-slice-read-t12
 shared-slice-read-t12 c = search needs
 
 returns : tie.Need-returns
-returns c = look-known _ _ _ _ _ _ (c .before .before .before .before .before .before .before .before .before .pre .4) (c .before .before .before .if1 .taken) (c .if2 .taken)
+returns c =
+    let entry = c .before .before .before .before .before .before .before .before .before in
+    let if1 = c .before .before .before .if1 in
+    look-known _ _ _ _ _ _ (entry .pre .4) (if1 .taken) (c .if2 .taken)
 
 mul-t10-2 : tie.Need-mul-t10-2
 mul-t10-2 c = search needs

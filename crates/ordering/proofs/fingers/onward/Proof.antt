@@ -1,7 +1,6 @@
 -- Past a number, into the next read, or out to the guard around: the place after, in each case by what the net notes.
 use native.Mathlib.Omega.{arith}
-use mathlib.Core.Path.{_≡_, ap, _∙_}
-use lib.ListN.{getD}
+use mathlib.Core.Path.{ap, _∙_}
 use Rattle.paper.specs.declared.Label.{Label}
 use Rattle.ordering.proofs.Onward.{stop-in, after-number, after-read, after-star}
 use borrow.Author.Needs.{needs}
@@ -50,20 +49,27 @@ first-of-requires c κs =
 
 returns-2 : tie.Need-returns-2
 returns-2 c =
-    let R = c .before .before .before .before .before .before .before .before .before .pre .0 in
-    let P = c .before .before .before .before .before .before .before .before .before .pre .1 in
-    let h = c .before .before .before .before .before .before .before .before .before .pre .2 in
-    rw (c .first-of .ensures) (after-read _ _ _ _ _ R _ _ _ P h (c .before .before .before .before .if1 .left) (omega (arith, c .before .before .if2 .taken, c .before .before .before .stop-of .ensures)))
+    let entry = c .before .before .before .before .before .before .before .before .before in
+    let if1 = c .before .before .before .before .if1 in
+    let if2 = c .before .before .if2 in
+    let stop-of = c .before .before .before .stop-of in
+    let R = entry .pre .0 in
+    let P = entry .pre .1 in
+    let h = entry .pre .2 in
+    rw (c .first-of .ensures) (after-read _ _ _ _ _ R _ _ _ P h (if1 .left) (omega (arith, if2 .taken, stop-of .ensures)))
 
 guard-of-requires : tie.Need-guard-of-requires
 guard-of-requires c κs = search needs
 
 from-of-requires : tie.Need-from-of-requires
 from-of-requires c κs =
-    let R = c .before .before .before .before .before .before .before .before .pre .0 in
-    let P = c .before .before .before .before .before .before .before .before .pre .1 in
-    let h = c .before .before .before .before .before .before .before .before .pre .2 in
-    let z = after-star _ _ _ _ _ R _ _ _ P h (c .before .before .before .if1 .left) (omega (arith, c .before .if2 .left, c .before .before .stop-of .ensures)) .place .star in
+    let entry = c .before .before .before .before .before .before .before .before in
+    let if1 = c .before .before .before .if1 in
+    let stop-of = c .before .before .stop-of in
+    let R = entry .pre .0 in
+    let P = entry .pre .1 in
+    let h = entry .pre .2 in
+    let z = after-star _ _ _ _ _ R _ _ _ P h (if1 .left) (omega (arith, c .before .if2 .left, stop-of .ensures)) .place .star in
     omega (arith, ap (λ (l : Label). l .0) (c .guard-of .ensures), R .choice .tree .nested .room)
 
 wide-requires : tie.Need-wide-requires
@@ -71,12 +77,17 @@ wide-requires c κs = search needs
 
 returns-3 : tie.Need-returns-3
 returns-3 c =
-    let R = c .before .before .before .before .before .before .before .before .before .before .pre .0 in
-    let P = c .before .before .before .before .before .before .before .before .before .before .pre .1 in
-    let h = c .before .before .before .before .before .before .before .before .before .before .pre .2 in
+    let entry = c .before .before .before .before .before .before .before .before .before .before in
+    let guard-of = c .before .before .guard-of in
+    let if1 = c .before .before .before .before .before .if1 in
+    let if2 = c .before .before .before .if2 in
+    let stop-of = c .before .before .before .before .stop-of in
+    let R = entry .pre .0 in
+    let P = entry .pre .1 in
+    let h = entry .pre .2 in
     let w = c .wide .ensures ∙ c .before .from-of .ensures in
-    let g = ap (λ (l : Label). l .0) (c .before .before .guard-of .ensures) in
-    rw (w, g) (after-star _ _ _ _ _ R _ _ _ P h (c .before .before .before .before .before .if1 .left) (omega (arith, c .before .before .before .if2 .left, c .before .before .before .before .stop-of .ensures)))
+    let g = ap (λ (l : Label). l .0) (guard-of .ensures) in
+    rw (w, g) (after-star _ _ _ _ _ R _ _ _ P h (if1 .left) (omega (arith, if2 .left, stop-of .ensures)))
 
 pub onward-spec : {M : Type 1} → statement M
 onward-spec =

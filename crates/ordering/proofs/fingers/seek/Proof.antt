@@ -1,11 +1,12 @@
 -- The loop's invariant: what was passed from the finger on and is open is not before j. The measure is how far the place is from
 -- the end.
-use Prim.Native.Nat.{_/_, _%_, _<_, _≤_}
+use Prim.Native.Nat.{_/_, _%_}
 use native.Mathlib.Omega.{arith}
-use mathlib.Core.Path.{_≡_, sym, _∙_}
+use mathlib.Core.Path.{sym, _∙_}
 use Rattle.ordering.specs.Graph.{outside}
 use Rattle.ordering.specs.Places.{ahead, Apart, Sought, fingerOf}
 use Rattle.ordering.proofs.Seeking.{sought-none, sought-more, sought-hit, sought-out}
+use borrow.Author.Needs.{needs}
 use Rattle.ordering.proofs.fingers.seek.Statement.{statement}
 use Rattle.ordering.proofs.fingers.seek.Tie as tie
 
@@ -45,21 +46,30 @@ pack-requires c κs =
 
 returns : tie.Need-returns Inv-loop μ-loop
 returns c =
-    let R = c .before .before .before .before .before .before .before .before .before .before .pre .0 in
+    let entry = c .before .before .before .before .before .before .before .before .before .before in
+    let if1 = c .before .before .before .if1 in
+    let loop = c .before .before .before .before .before .loop in
+    let look = c .before .before .look in
+    let R = entry .pre .0 in
     let small : _ = R .choice .few in
-    rw (c .pack .ensures) (sought-hit _ _ _ _ _ _ _ _ _ _ (omega arith) (c .before .before .before .if1 .taken) (c .before .before .before .before .before .loop .inv .0) (sym (c .before .before .look .ensures .says) ∙ c .before .if2 .taken))
+    rw (c .pack .ensures) (sought-hit _ _ _ _ _ _ _ _ _ _ (omega arith) (if1 .taken) (loop .inv .0) (sym (look .ensures .says) ∙ c .before .if2 .taken))
 
 onward-requires : tie.Need-onward-requires Inv-loop μ-loop
 onward-requires c κs =
-    (c .before .before .before .before .before .before .before .before .before .pre .0, c .before .before .before .before .loop .inv .0 .at .place, c .before .before .if1 .taken)
+    let entry = c .before .before .before .before .before .before .before .before .before in
+    let loop = c .before .before .before .before .loop in
+    let if1 = c .before .before .if1 in
+    (entry .pre .0, loop .inv .0 .at .place, if1 .taken)
 
 loop-less : tie.Need-loop-less Inv-loop μ-loop
-loop-less c = c .onward .ensures .less
+loop-less c = search needs
 
 loop-again : tie.Need-loop-again Inv-loop μ-loop
 loop-again c =
-    let w = c .before .before .look .ensures in
-    (sought-more _ _ _ _ _ _ _ _ _ _ _ _ _ _ _ (c .before .before .before .before .before .loop .inv .0) (sym (w .says) ∙ c .before .if2 .left) (c .onward .ensures), w .apart)
+    let look = c .before .before .look in
+    let loop = c .before .before .before .before .before .loop in
+    let w = look .ensures in
+    (sought-more _ _ _ _ _ _ _ _ _ _ _ _ _ _ _ (loop .inv .0) (sym (w .says) ∙ c .before .if2 .left) (c .onward .ensures), w .apart)
 
 returns-2 : tie.Need-returns-2 Inv-loop μ-loop
 returns-2 c = sought-out _ _ _ _ _ _ _ _ _ _ (omega (arith, c .if1 .left)) (c .before .before .loop .inv .0)

@@ -1,7 +1,7 @@
 -- The loop's invariant: the fingers of the numbers below j are at their starts.
 use Prim.Native.Nat.{_-_, _≤_}
 use native.Mathlib.Omega.{arith}
-use mathlib.Core.Path.{_≡_, ap, _∙_}
+use mathlib.Core.Path.{_∙_}
 use lib.ListN.{length}
 use Rattle.ordering.specs.Places.{startOf, AtStart}
 use Rattle.ordering.proofs.Seeking.{start-more}
@@ -19,16 +19,20 @@ loop-holds : tie.Need-loop-holds Inv-loop μ-loop
 loop-holds c = (omega arith, record { size = c .before .before .pre .1; starts = λ i h. absurd (omega arith) })
 
 mul-wide : tie.Need-mul-wide Inv-loop μ-loop
-mul-wide c = omega (arith, c .loop-test .taken, c .before .before .before .before .pre .0 .few)
+mul-wide c = search needs
 
 shared-slice-read-wide : tie.Need-shared-slice-read-wide Inv-loop μ-loop
-shared-slice-read-wide c = omega (arith, c .before .loop-test .taken)
+shared-slice-read-wide c = search needs
 
 add-wide : tie.Need-add-wide Inv-loop μ-loop
-add-wide c = omega (arith, c .before .before .before .before .before .pre .0 .below _ (c .before .loop-test .taken), c .before .before .before .before .before .pre .0 .tree .nested .few)
+add-wide c =
+    let entry = c .before .before .before .before .before in
+    omega (arith, entry .pre .0 .below _ (c .before .loop-test .taken), entry .pre .0 .tree .nested .few)
 
 from-of-requires : tie.Need-from-of-requires Inv-loop μ-loop
-from-of-requires c κs = omega (arith, c .before .before .before .before .before .pre .0 .below _ (c .before .loop-test .taken), c .before .before .before .before .before .pre .0 .tree .nested .room)
+from-of-requires c κs =
+    let entry = c .before .before .before .before .before in
+    omega (arith, entry .pre .0 .below _ (c .before .loop-test .taken), entry .pre .0 .tree .nested .room)
 
 wide-requires : tie.Need-wide-requires Inv-loop μ-loop
 wide-requires c κs = search needs
@@ -37,24 +41,28 @@ pack-requires : tie.Need-pack-requires Inv-loop μ-loop
 pack-requires c κs = (search needs, omega (arith, c .before .before .before .before .before .before .before .pre .0 .few))
 
 mul-finger : tie.Need-mul-finger Inv-loop μ-loop
-mul-finger c = omega (arith, c .before .before .before .before .loop-test .taken, c .before .before .before .before .before .before .before .before .pre .0 .few)
+mul-finger c = search needs
 
 element-write-finger : tie.Need-element-write-finger Inv-loop μ-loop
-element-write-finger c = omega (arith, c .before .before .before .before .loop-test .taken, c .before .before .before .before .before .before .before .before .pre .0 .few)
+element-write-finger c = search needs
 
 add-j : tie.Need-add-j Inv-loop μ-loop
-add-j c = omega (arith, c .before .before .before .before .loop-test .taken, c .before .before .before .before .before .before .before .before .pre .0 .few)
+add-j c = search needs
 
 loop-less : tie.Need-loop-less Inv-loop μ-loop
-loop-less c = omega (arith, c .before .before .before .before .loop-test .taken)
+loop-less c = search needs
 
 loop-again : tie.Need-loop-again Inv-loop μ-loop
 unfolding startOf
 loop-again c =
-    let l = c .before .before .before .before .loop-test .taken in
-    let e = c .before .wide .ensures ∙ c .before .before .from-of .ensures in
+    let loop-test = c .before .before .before .before .loop-test in
+    let from-of = c .before .before .from-of in
+    let entry = c .before .before .before .before .before .before .before .before in
+    let loop = c .before .before .before .before .before .loop in
+    let l = loop-test .taken in
+    let e = c .before .wide .ensures ∙ from-of .ensures in
     let m = rw e at (c .pack .ensures) in
-    (omega arith, start-more _ _ _ _ _ (omega (arith, c .before .before .before .before .before .before .before .before .pre .0 .few)) m (c .before .before .before .before .before .loop .inv .1))
+    (omega arith, start-more _ _ _ _ _ (omega (arith, entry .pre .0 .few)) m (loop .inv .1))
 
 returns : tie.Need-returns Inv-loop μ-loop
 returns c =

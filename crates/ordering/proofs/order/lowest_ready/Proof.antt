@@ -4,11 +4,13 @@ use native.Mathlib.Omega.{arith}
 use lib.ListN.{length}
 use Rattle.ordering.specs.Placing.{State}
 use Rattle.ordering.specs.Places.{graphOf}
+use borrow.Author.Needs.{needs}
 use Rattle.ordering.proofs.order.lowest_ready.Statement.{statement}
 use Rattle.ordering.proofs.order.lowest_ready.Tie as tie
 
 abbrev Inv-loop : tie.InvT-loop
-Inv-loop rows reads chosen net n placed finger₀ wait₀ low₀ from k₀ finger wait low k = (k ≤ length chosen) × State (graphOf rows reads chosen n) k placed finger wait low
+Inv-loop rows reads chosen net n placed finger₀ wait₀ low₀ from k₀ finger wait low k =
+    (k ≤ length chosen) × State (graphOf rows reads chosen n) k placed finger wait low
 
 abbrev μ-loop : tie.MeasureT-loop
 μ-loop rows reads chosen net n placed finger₀ wait₀ low₀ from k₀ finger wait low k = length chosen - k
@@ -17,7 +19,11 @@ loop-holds : tie.Need-loop-holds Inv-loop μ-loop
 loop-holds c = (c .before .before .before .pre .1, c .before .before .before .pre .2)
 
 visit-requires : tie.Need-visit-requires Inv-loop μ-loop
-visit-requires c κs = (c .before .before .before .before .before .before .before .before .pre .0, c .before .before .before .loop-test .taken, c .before .before .before .before .loop .inv .1)
+visit-requires c κs =
+    let entry = c .before .before .before .before .before .before .before .before in
+    let loop-test = c .before .before .before .loop-test in
+    let loop = c .before .before .before .before .loop in
+    (entry .pre .0, loop-test .taken, loop .inv .1)
 
 returns : tie.Need-returns Inv-loop μ-loop
 returns c =
@@ -25,10 +31,10 @@ returns c =
     record { state = v .state; to = c .before .before .before .before .before .before .loop .inv .0; ready = λ _. v .ready (c .if1 .taken) }
 
 add-k : tie.Need-add-k Inv-loop μ-loop
-add-k c = omega (arith, c .before .before .before .before .before .loop-test .taken, c .before .before .before .before .before .before .before .before .before .before .pre .0 .choice .few)
+add-k c = search needs
 
 loop-less : tie.Need-loop-less Inv-loop μ-loop
-loop-less c = omega (arith, c .before .before .before .before .before .loop-test .taken)
+loop-less c = search needs
 
 loop-again : tie.Need-loop-again Inv-loop μ-loop
 loop-again c = (omega (arith, c .before .before .before .before .before .loop-test .taken), c .before .visit .ensures .passed (c .if1 .left))

@@ -1,8 +1,8 @@
 -- The loop's invariant: k is the lowest number that is ready, and the labels placed so far stand in `out`. The measure is how many
 -- may still be placed.
-use Prim.Native.Nat.{_≤_, _-_}
+use Prim.Native.Nat.{_-_}
 use native.Mathlib.Omega.{arith}
-use mathlib.Core.Path.{_≡_, refl}
+use mathlib.Core.Path.{refl}
 use lib.ListN.{length}
 use Rattle.ordering.specs.Prior.{ordered}
 use Rattle.ordering.specs.Placing.{Lowest, Placing}
@@ -34,62 +34,67 @@ loop-holds c =
     (c .lowest-ready .ensures, placing-first _ _ _ (omega (arith, a .0 .choice .few)) (a .1))
 
 mul-out : tie.Need-mul-out Inv-loop μ-loop
-mul-out c = omega (arith, c .loop-test .taken, c .before .before .before .before .before .before .before .before .before .before .before .before .pre .0 .choice .few)
+mul-out c = search needs
 
 shared-slice-read-out : tie.Need-shared-slice-read-out Inv-loop μ-loop
-shared-slice-read-out c = omega (arith, c .before .loop-test .taken)
+shared-slice-read-out c = search needs
 
 mul-out-2 : tie.Need-mul-out-2 Inv-loop μ-loop
-mul-out-2 c =
-    let z = not-full _ _ _ _ _ _ _ _ _ _ (c .before .before .loop .inv .0) (c .before .before .loop .inv .1) (c .before .loop-test .taken) in
-    omega (arith, c .before .before .before .before .before .before .before .before .before .before .before .before .before .pre .0 .choice .few)
+mul-out-2 c = search needs
 
 element-write-out : tie.Need-element-write-out Inv-loop μ-loop
-element-write-out c =
-    let z = not-full _ _ _ _ _ _ _ _ _ _ (c .before .before .loop .inv .0) (c .before .before .loop .inv .1) (c .before .loop-test .taken) in
-    omega (arith, c .before .before .before .before .before .before .before .before .before .before .before .before .before .pre .0 .choice .few)
+element-write-out c = search needs
 
 mul-placed : tie.Need-mul-placed Inv-loop μ-loop
-mul-placed c = omega (arith, c .before .loop-test .taken, c .before .before .before .before .before .before .before .before .before .before .before .before .before .pre .0 .choice .few)
+mul-placed c = search needs
 
 array-write-placed : tie.Need-array-write-placed Inv-loop μ-loop
-array-write-placed c = omega (arith, c .before .loop-test .taken, c .before .before .before .before .before .before .before .before .before .before .before .before .before .pre .0 .choice .few)
+array-write-placed c = search needs
 
 add-count : tie.Need-add-count Inv-loop μ-loop
-add-count c =
-    let z = not-full _ _ _ _ _ _ _ _ _ _ (c .before .before .loop .inv .0) (c .before .before .loop .inv .1) (c .before .loop-test .taken) in
-    omega (arith, c .before .before .before .before .before .before .before .before .before .before .before .before .before .pre .0 .choice .few)
+add-count c = search needs
 
 mul-wide : tie.Need-mul-wide Inv-loop μ-loop
-mul-wide c = omega (arith, c .before .loop-test .taken, c .before .before .before .before .before .before .before .before .before .before .before .before .before .pre .0 .choice .few)
+mul-wide c = search needs
 
 array-read-wide : tie.Need-array-read-wide Inv-loop μ-loop
-array-read-wide c = omega (arith, c .before .loop-test .taken, c .before .before .before .before .before .before .before .before .before .before .before .before .before .pre .0 .choice .few)
+array-read-wide c = search needs
 
 wide-requires : tie.Need-wide-requires Inv-loop μ-loop
 wide-requires c κs = search needs
 
 add-least : tie.Need-add-least Inv-loop μ-loop
-add-least c = omega (arith, c .before .before .loop-test .taken, c .before .before .before .before .before .before .before .before .before .before .before .before .before .before .pre .0 .choice .few)
+add-least c = search needs
 
 least-requires : tie.Need-least-requires Inv-loop μ-loop
 least-requires c κs = search needs
 
 lowest-ready-requires-2 : tie.Need-lowest-ready-requires-2 Inv-loop μ-loop
 lowest-ready-requires-2 c κs =
-    let l = c .before .before .before .before .least .ensures in (
-      c .before .before .before .before .before .before .before .before .before .before .before .before .before .before .before .before .before .before .before .pre .0,
-      omega (arith, l .1, c .before .before .before .before .before .before .before .loop-test .taken),
-      state-after _ _ _ _ _ _ (c .before .before .before .before .before .before .before .before .loop .inv .0 .state) (c .before .before .before .before .before .before .before .loop-test .taken) _ (omega (arith, l .0, c .before .before .before .before .before .wide .ensures)) (l .1),
+    let least = c .before .before .before .before .least in
+    let loop-test = c .before .before .before .before .before .before .before .loop-test in
+    let at = c .before .before .before .before .before .before .before .before in
+    let loop = at .loop in
+    let entry = at .before .before .before .before .before .before .before .before .before .before .before in
+    let wide = c .before .before .before .before .before .wide in
+    let l = least .ensures in (
+      entry .pre .0,
+      omega (arith, l .1, loop-test .taken),
+      state-after _ _ _ _ _ _ (loop .inv .0 .state) (loop-test .taken) _ (omega (arith, l .0, wide .ensures)) (l .1),
     )
 
 loop-less : tie.Need-loop-less Inv-loop μ-loop
 loop-less c =
-    let z = not-full _ _ _ _ _ _ _ _ _ _ (c .before .before .before .before .before .before .before .before .before .loop .inv .0) (c .before .before .before .before .before .before .before .before .before .loop .inv .1) (c .before .before .before .before .before .before .before .before .loop-test .taken) in
+    let loop = c .before .before .before .before .before .before .before .before .before .loop in
+    let loop-test = c .before .before .before .before .before .before .before .before .loop-test in
+    let z = not-full _ _ _ _ _ _ _ _ _ _ (loop .inv .0) (loop .inv .1) (loop-test .taken) in
     omega arith
 
 loop-again : tie.Need-loop-again Inv-loop μ-loop
-loop-again c = (c .lowest-ready2 .ensures, placing-more _ _ _ _ _ _ _ _ _ _ (c .before .before .before .before .before .before .before .before .before .loop .inv .0) (c .before .before .before .before .before .before .before .before .before .loop .inv .1) (c .before .before .before .before .before .before .before .before .loop-test .taken))
+loop-again c =
+    let loop = c .before .before .before .before .before .before .before .before .before .loop in
+    let loop-test = c .before .before .before .before .before .before .before .before .loop-test in
+    (c .lowest-ready2 .ensures, placing-more _ _ _ _ _ _ _ _ _ _ (loop .inv .0) (loop .inv .1) (loop-test .taken))
 
 returns : tie.Need-returns Inv-loop μ-loop
 unfolding ordered

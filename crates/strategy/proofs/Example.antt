@@ -1,0 +1,22 @@
+-- The document's listing P: its parts are what the judgement asks, and its words are accepted with two transitions.
+use mathlib.Core.Path.{_≡_, refl, ap, _∙_}
+use Rattle.table.specs.declared.Layout.{Layout}
+use Rattle.table.specs.declared.Checked.the-variants.{Sound}
+use Rattle.table.specs.Sections.{layout, checked}
+use Rattle.table.specs.Tables.{rowsIn, readsIn, chosenIn, formulaIn}
+use Rattle.table.specs.Rows.{formOf}
+use Rattle.table.specs.Formula.{starAt, childrenAt, nodeAt, formulaAt}
+use Rattle.table.specs.Example.{wordsOfP}
+use Rattle.table.proofs.Example.{P-is-sound}
+use Rattle.strategy.specs.Judge.{acceptedWith, judgedAs, judgedOf, Parts}
+use Rattle.strategy.proofs.Held.{parts-of}
+
+abbrev layoutOfP : Layout
+layoutOfP = layout 2 1 8 3
+
+pub P-has-parts : Parts (rowsIn wordsOfP layoutOfP) (readsIn wordsOfP layoutOfP) (chosenIn wordsOfP layoutOfP) 2 8
+P-has-parts = parts-of wordsOfP layoutOfP P-is-sound
+
+pub P-is-accepted : judgedOf wordsOfP ≡ acceptedWith layoutOfP 2
+unfolding formOf starAt childrenAt nodeAt formulaAt judgedOf
+P-is-accepted = ap (judgedAs wordsOfP) P-is-sound

@@ -1,0 +1,5 @@
+pub mod Held
+pub mod Strangers
+pub mod Placed
+pub mod Answers
+pub mod Example

@@ -1,0 +1,136 @@
+-- The judgement of a table's words: refusals 1 to 9 and 3 as the table's own checks find them, then 10 to 14 as document 001's
+-- judgement of the formula that the words write; or what is known of an accepted table.
+use Prim.Native.Nat.{ℕ, _*_, _<_, _≤_}
+use mathlib.Core.Bool.{Bool, true, cond, not}
+use mathlib.Core.Path.{_≡_}
+use mathlib.Core.List.{List, [], map}
+use lib.Dec.{eqb, ltb}
+use lib.ListN.{length, getD, take}
+use Rattle.paper.specs.declared.Label.{Label}
+use Rattle.paper.specs.Formula.{ℓ, labels, Formula, WellFormed}
+use Rattle.paper.specs.Before.{before}
+use Rattle.paper.specs.Order.{order}
+use Rattle.paper.specs.Transition.{keys}
+use Rattle.paper.specs.Judgement.{Judgement, accepted, refused, refuse, strangers, missed, doubled, onCycles, mostTransitions, judge}
+use Rattle.table.specs.declared.Layout.{Layout}
+use Rattle.table.specs.declared.Checked.{Checked}
+use Rattle.table.specs.declared.Checked.the-variants.{Sound, Refused}
+use Rattle.table.specs.First.{first}
+use Rattle.table.specs.Rows.{kindOf, keepsRules, isDeep}
+use Rattle.table.specs.Sections.{checked, refusal}
+use Rattle.table.specs.Formula.{formulaAt}
+use Rattle.table.specs.Written.{Ascend}
+use Rattle.table.specs.Tables.{formulaIn, chosenIn}
+use Rattle.ordering.specs.Prior.{written}
+use Rattle.strategy.specs.declared.Judged.{Judged}
+use Rattle.strategy.specs.declared.Judged.the-variants as answer
+
+-- the proposal that a strategy section makes
+abbrev pub proposalOf : List ℕ → List Label
+proposalOf chosen = map ℓ chosen
+
+abbrev pub proposalIn : List ℕ → Layout → List Label
+proposalIn words l = proposalOf (chosenIn words l)
+
+-- an acceptance, and a refusal, as answers
+abbrev pub acceptedWith : Layout → ℕ → Judged
+acceptedWith l t = answer.Accepted (record { layout = l; transitions = t })
+
+abbrev pub refusedAt : ℕ → ℕ → Judged
+refusedAt number place = answer.Refused (refusal number place)
+
+-- a judgement of the formula of words laid out so, as an answer
+abbrev pub answerOf : Layout → Judgement → Judged
+answerOf l (accepted v n s t) = acceptedWith l t
+answerOf l (refused number place) = refusedAt number place
+
+abbrev pub judgedAs : List ℕ → Checked → Judged
+judgedAs words (Refused r) = answer.Refused r
+judgedAs words (Sound l) = answerOf l (judge (l .variables) (formulaIn words l) (proposalIn words l))
+
+-- the answer to any words
+unfoldable pub judgedOf : List ℕ → Judged
+judgedOf words = judgedAs words (checked words)
+
+-- the reported order of a formula with a proposal, as words; where there is no order, as far as it goes
+abbrev pub orderOf : Formula → List Label → List ℕ
+orderOf f A = map (λ l. l .0) (order (before f A) A)
+
+-- the order is worked out before the judgement is known: it is an acceptance, or a refusal past 12
+abbrev pub comesLate : Judgement → Bool
+comesLate (accepted v n s t) = true
+comesLate (refused number place) = ltb 12 number
+
+-- what a judgement leaves in words lent for the order: the order o in front of what was there, or what was there
+abbrev pub leftBy : Judgement → List ℕ → List ℕ → List ℕ
+leftBy j o lent = cond (comesLate j) (written o lent) lent
+
+abbrev pub leftAs : List ℕ → Checked → List ℕ → List ℕ
+leftAs words (Refused r) lent = lent
+leftAs words (Sound l) lent =
+    leftBy (judge (l .variables) (formulaIn words l) (proposalIn words l)) (orderOf (formulaIn words l) (proposalIn words l)) lent
+
+-- what is left in words lent for the order
+unfoldable pub orderLeft : List ℕ → List ℕ → List ℕ
+orderLeft words lent = leftAs words (checked words) lent
+
+-- The answer to any words, and what is left in the words lent for the order: where it is an acceptance, the reported order stands
+-- at their front.
+pub record JudgedInto (words lent left : List ℕ) (r : Judged) : Type 0 where
+  pub answered : r ≡ judgedOf words
+  pub left-so : left ≡ orderLeft words lent
+  pub ordered : (l : Layout) (t : ℕ) → r ≡ acceptedWith l t → take (l .chosen) left ≡ orderOf (formulaIn words l) (proposalIn words l)
+
+-- What the judgement of sound parts asks: rows that keep their rules, no deeper than 64, which so write the formula that is read
+-- from them, with reads that are variables, and chosen labels of those rows, strictly ascending.
+pub record Parts (rows reads chosen : List ℕ) (#V #N : ℕ) : Type 0 where
+  pub room : 4 * #N ≤ length rows
+  pub some-rows : 1 ≤ #N
+  pub most-rows : #N ≤ 4096
+  pub most-variables : #V ≤ 1024
+  pub most-reads : length reads ≤ 8192
+  pub keeps : (i : ℕ) → i < #N → keepsRules rows reads #V #N i ≡ true
+  pub shallow : first (isDeep rows) #N ≡ #N
+  pub well-formed : WellFormed #V (formulaAt rows reads 64 0)
+  pub reads-below : (r : ℕ) → r < length reads → getD reads r 0 < #V
+  pub below : (k : ℕ) → k < length chosen → getD chosen k 0 < #N
+  pub ascends : Ascend chosen
+
+-- the k-th chosen label is no candidate
+abbrev pub isStranger : List ℕ → List ℕ → ℕ → Bool
+isStranger rows chosen k = not (eqb (kindOf rows (getD chosen k 0)) 2)
+
+module _ (rows reads chosen : List ℕ) where
+  -- the formula and the proposal of parts
+  abbrev pub formulaOf : Formula
+  formulaOf = formulaAt rows reads 64 0
+
+  -- parts that passed 10, 11 and 12
+  pub record Covered (#V #N : ℕ) : Type 0 where
+    pub parts : Parts rows reads chosen #V #N
+    pub no-strangers : strangers formulaOf (proposalOf chosen) ≡ []
+    pub none-missed : missed #V formulaOf (proposalOf chosen) ≡ []
+    pub none-doubled : doubled #V formulaOf (proposalOf chosen) ≡ []
+
+-- 14, or an acceptance; 13, and what follows it
+abbrev pub judgeCount : ℕ → Formula → List Label → Judgement
+judgeCount #V f A =
+    cond (ltb mostTransitions (length (keys f A))) (refused 14 0) (accepted #V (length (labels f)) (length A) (length (keys f A)))
+
+abbrev pub judgeOrder : ℕ → Formula → List Label → Judgement
+judgeOrder #V f A = refuse 13 (map (λ l. l .0) (onCycles f A)) (judgeCount #V f A)
+
+-- the answer by a number of transitions
+unfoldable pub countedAs : Layout → ℕ → Judged
+countedAs l n = cond (ltb mostTransitions n) (refusedAt 14 0) (acceptedWith l n)
+
+module _ (rows reads chosen : List ℕ) (l : Layout) (lent left : List ℕ) (r : Judged) where
+  -- the answer of the last two checks, and of all five; and what is left in the words lent for the order
+  pub record OrderedParts : Type 0 where
+    pub answered : r ≡ answerOf l (judgeOrder (l .variables) (formulaOf rows reads chosen) (proposalOf chosen))
+    pub left-so : left ≡ written (orderOf (formulaOf rows reads chosen) (proposalOf chosen)) lent
+
+  pub record JudgedParts : Type 0 where
+    pub answered : r ≡ answerOf l (judge (l .variables) (formulaOf rows reads chosen) (proposalOf chosen))
+    pub left-so : left
+        ≡ leftBy (judge (l .variables) (formulaOf rows reads chosen) (proposalOf chosen)) (orderOf (formulaOf rows reads chosen) (proposalOf chosen)) lent
