@@ -12,4 +12,3 @@ pub mod Onward
 pub mod Seeking
 pub mod Looking
 pub mod Itself
-pub mod Sound
