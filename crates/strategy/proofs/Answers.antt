@@ -13,13 +13,12 @@ use borrow.Author.Tests.{eqb-false, ltb-false, lt-ltb, le-ltb, not-false}
 use Rattle.paper.specs.declared.Label.{Label}
 use Rattle.paper.specs.declared.Variable.{Variable}
 use Rattle.paper.specs.Lists.{anyOf, those}
-use Rattle.paper.specs.Formula.{ℓ, has, isCandidate, Formula}
+use Rattle.paper.specs.Formula.{ℓ, isCandidate, Formula}
 use Rattle.paper.specs.Branch.{branches}
 use Rattle.paper.specs.Before.{before}
 use Rattle.paper.specs.Order.{order}
 use Rattle.paper.specs.Strategy.{Homogeneous, chosenOn, MinimalCovering}
 use Rattle.paper.specs.Transition.{keys}
-use Rattle.paper.specs.Structure.KeyCount.{numberOf}
 use Rattle.paper.specs.Judgement.{Judgement, accepted, refused, refuse, variables, strangers, missed, doubled, onCycles, mostTransitions, judge}
 use Rattle.paper.proofs.Bools.{not-so}
 use Rattle.paper.proofs.Lists.{to-any, of-none}
@@ -44,7 +43,7 @@ use Rattle.counting.proofs.KeyNumbers.{keys-past-limit, keys-number}
 use Rattle.ordering.specs.Prior.{lowestCyclic, written, Filled}
 use Rattle.strategy.specs.declared.Judged.{Judged}
 use Rattle.strategy.specs.declared.Judged.the-variants as answer
-use Rattle.strategy.specs.Judge.{proposalOf, proposalIn, acceptedWith, refusedAt, answerOf, judgedOf, orderOf, comesLate, leftBy, orderLeft, JudgedInto, Parts, formulaOf, isStranger, Covered, judgeCount, judgeOrder, countedAs, OrderedParts, JudgedParts}
+use Rattle.strategy.specs.Judge.{proposalOf, proposalIn, acceptedWith, refusedAt, answerOf, judgedOf, orderOf, comesLate, orderLeft, JudgedInto, Parts, formulaOf, isStranger, Covered, judgeCount, judgeOrder, countedAs, OrderedParts, JudgedParts}
 use Rattle.strategy.proofs.Held.{parts-of, lentRows, lentReads, lentChosen, of-lent, walkable, few-labels}
 use Rattle.strategy.proofs.Strangers.{first-stranger, no-stranger}
 use Rattle.strategy.proofs.Placed.{choice, some-cycle, order-length, order-refuses, order-passes, order-left}
@@ -85,11 +84,12 @@ module _ (l : Layout) {m n : ℕ} (e : n ≡ m) where
   counted-fits h = rw (← e, le-ltb mostTransitions n h)
 
 pub count-answers : {rows reads chosen : List ℕ} {#V #N : ℕ} {marks : List ℕ} (l : Layout) → Covered rows reads chosen #V #N → Marked (proposalOf chosen) marks
-    → answerOf l (judgeCount #V (formulaOf rows reads chosen) (proposalOf chosen)) ≡ countedAs l (total (keysAt rows marks 64 0))
+    → answerOf l (judgeCount #V (formulaOf rows reads) (proposalOf chosen)) ≡ countedAs l (total (keysAt rows marks 64 0))
 count-answers {rows} {reads} {chosen} {#V} {#N} {marks} l c marked =
-    let f = formulaOf rows reads chosen in
+    let f = formulaOf rows reads in
     let A = proposalOf chosen in
-    let n = numbers-say #V f A (c .parts .well-formed) (homogeneous-of #V f A (c .no-strangers)) (minimal-of #V f A (c .none-missed) (c .none-doubled)) .count in
+    let minimal = minimal-of #V f A (c .none-missed) (c .none-doubled) in
+    let n = numbers-say #V f A (c .parts .well-formed) (homogeneous-of #V f A (c .no-strangers)) minimal .count in
     let w = walkable (c .parts) in
     counted-answer l _ _ _ (length (keys f A)) (total (keysAt rows marks 64 0))
     (keys-past-limit rows marks 64 0 A marked w reads ∙ ap (ltb mostTransitions) (sym n))
@@ -109,25 +109,29 @@ always-late #V f A = late-13 (map (λ l. l .0) (onCycles f A)) (judgeCount #V f 
 
 module _ (rows reads chosen : List ℕ) where
   abbrev judgementBy : ℕ → Judgement
-  judgementBy #V = judge #V (formulaOf rows reads chosen) (proposalOf chosen)
+  judgementBy #V = judge #V (formulaOf rows reads) (proposalOf chosen)
 
   abbrev reported : List ℕ
-  reported = orderOf (formulaOf rows reads chosen) (proposalOf chosen)
+  reported = orderOf (formulaOf rows reads) (proposalOf chosen)
+
+  abbrev leftIf : List ℕ → Bool → List ℕ
+  leftIf lent late = cond late (written reported lent) lent
 
 module _ {rows reads chosen : List ℕ} {l : Layout} {r : Judged} where
   -- refused before the order is worked out
-  pub refused-early : {number place : ℕ} (lent : List ℕ) → judgementBy rows reads chosen (l .variables) ≡ refused number place → number ≤ 12 → r ≡ refusedAt number place
-      → JudgedParts rows reads chosen l lent lent r
+  pub refused-early : {number place : ℕ} (lent : List ℕ) → judgementBy rows reads chosen (l .variables) ≡ refused number place → number ≤ 12
+      → r ≡ refusedAt number place → JudgedParts rows reads chosen l lent lent r
   refused-early {number} lent e h q = record {
     answered = q ∙ sym (ap (answerOf l) e);
-    left-so = sym (ap (λ j. leftBy j (reported rows reads chosen) lent) e ∙ ap (λ b. cond b (written (reported rows reads chosen) lent) lent) (le-ltb 12 number h));
+    left-so = sym (ap (leftIf rows reads chosen lent) (ap comesLate e ∙ le-ltb 12 number h));
   }
 
-  pub ordered-late : {lent left : List ℕ} → judgementBy rows reads chosen (l .variables) ≡ judgeOrder (l .variables) (formulaOf rows reads chosen) (proposalOf chosen)
+  pub ordered-late : {lent left : List ℕ} → judgementBy rows reads chosen (l .variables) ≡ judgeOrder (l .variables) (formulaOf rows reads) (proposalOf chosen)
       → OrderedParts rows reads chosen l lent left r → JudgedParts rows reads chosen l lent left r
   ordered-late {lent} e o = record {
     answered = o .answered ∙ sym (ap (answerOf l) e);
-    left-so = o .left-so ∙ sym (ap (λ j. leftBy j (reported rows reads chosen) lent) e ∙ ap (λ b. cond b (written (reported rows reads chosen) lent) lent) (always-late (l .variables) (formulaOf rows reads chosen) (proposalOf chosen)));
+    left-so = o .left-so
+        ∙ sym (ap (leftIf rows reads chosen lent) (ap comesLate e ∙ always-late (l .variables) (formulaOf rows reads) (proposalOf chosen)));
   }
 
   -- an acceptance leaves the whole order in front
@@ -135,7 +139,7 @@ module _ {rows reads chosen : List ℕ} {l : Layout} {r : Judged} where
       → judgementBy rows reads chosen (l .variables) ≡ accepted v n s t → take (length chosen) left ≡ reported rows reads chosen
   unfolding written
   fills {lent = lent} p j a =
-      let f = formulaOf rows reads chosen in
+      let f = formulaOf rows reads in
       let A = proposalOf chosen in
       let strategy = accepted-exactly (l .variables) f A .0 (accepted-only-so (l .variables) f A _ _ _ _ a) .0 in
       let many = order-length f A (p .ascends) (strategy .acyclic) in
@@ -156,8 +160,8 @@ module _ {rows reads chosen : List ℕ} (l : Layout) {lent left : List ℕ} {cou
     left-so = order-left c filled;
   }
 
-  pub order-counted : {marks : List ℕ} {r : Judged} → length chosen ≤ count → Marked (proposalOf chosen) marks → r ≡ countedAs l (total (keysAt rows marks 64 0))
-      → OrderedParts rows reads chosen l lent left r
+  pub order-counted : {marks : List ℕ} {r : Judged} → length chosen ≤ count → Marked (proposalOf chosen) marks
+      → r ≡ countedAs l (total (keysAt rows marks 64 0)) → OrderedParts rows reads chosen l lent left r
   order-counted h marked q = record {
     answered = q ∙ sym (ap (answerOf l) (order-passes c (omega (arith, filled .number))) ∙ count-answers l c marked);
     left-so = order-left c filled;
@@ -173,10 +177,10 @@ module _ {rows reads chosen : List ℕ} (l : Layout) (p : Parts rows reads chose
 
   module _ {marks : List ℕ} (marked : Marked (proposalOf chosen) marks) (passed : length chosen ≤ k) where
     covering-decides : judgementBy rows reads chosen (l .variables)
-        ≡ judgementOf (coveringOf rows marks (l .variables)) (judgeOrder (l .variables) (formulaOf rows reads chosen) (proposalOf chosen))
+        ≡ judgementOf (coveringOf rows marks (l .variables)) (judgeOrder (l .variables) (formulaOf rows reads) (proposalOf chosen))
     covering-decides =
         rw (no-stranger p (omega arith))
-        (covering-says rows reads refl marked (few-labels p) (p .well-formed) (judgeOrder (l .variables) (formulaOf rows reads chosen) (proposalOf chosen)))
+        (covering-says rows reads refl marked (few-labels p) (p .well-formed) (judgeOrder (l .variables) (formulaOf rows reads) (proposalOf chosen)))
 
     pub missed-refused : {r : Judged} {v : Variable} (lent : List ℕ) → coveringOf rows marks (l .variables) ≡ Missed v → r ≡ refusedAt 11 (v .0)
         → JudgedParts rows reads chosen l lent lent r
@@ -191,8 +195,8 @@ module _ {rows reads chosen : List ℕ} (l : Layout) (p : Parts rows reads chose
         let (none-missed, none-doubled) = gives-covered rows reads refl marked (few-labels p) (p .well-formed) .0 e in
         record { parts = p; no-strangers = no-stranger p (omega arith); none-missed = none-missed; none-doubled = none-doubled }
 
-    pub covered-judged : {r : Judged} {lent left : List ℕ} → coveringOf rows marks (l .variables) ≡ Covering.Covered → OrderedParts rows reads chosen l lent left r
-        → JudgedParts rows reads chosen l lent left r
+    pub covered-judged : {r : Judged} {lent left : List ℕ} → coveringOf rows marks (l .variables) ≡ Covering.Covered
+        → OrderedParts rows reads chosen l lent left r → JudgedParts rows reads chosen l lent left r
     covered-judged e o = ordered-late (covering-decides ∙ rw e) o
 
 -- Whole words.
@@ -209,7 +213,7 @@ abbrev transitionsIn : Judged → ℕ
 transitionsIn (answer.Accepted a) = a .transitions
 transitionsIn (answer.Refused x) = 0
 
-accepting : (l m : Layout) (j : Judgement) {t : ℕ} → answerOf l j ≡ acceptedWith m t → (l ≡ m) × (v n s : ℕ) × (j ≡ accepted v n s t)
+pub accepting : (l m : Layout) (j : Judgement) {t : ℕ} → answerOf l j ≡ acceptedWith m t → (l ≡ m) × (v n s : ℕ) × (j ≡ accepted v n s t)
 accepting l m (accepted v n s t) e = (ap layoutIn e, v, n, s, ap (λ k. accepted v n s k) (ap transitionsIn e))
 accepting l m (refused number place) e = let z : _≡_ {A = ℕ} 0 1 = cc in absurd (omega arith)
 
@@ -229,3 +233,8 @@ pub judged-lent : {words lent left : List ℕ} {l : Layout} {r : Judged} (e : ch
     → JudgedParts (lentRows words l e) (lentReads words l e) (lentChosen words l e) l lent left r → JudgedInto words lent left r
 judged-lent {words} {lent} {left} {l} {r} e j =
     judged-whole e (of-lent words l e (λ rows reads chosen. JudgedParts rows reads chosen l lent left r) j)
+
+-- the promise leaves one outcome
+pub one-outcome : {words lent left : List ℕ} {r : Judged} {other : List ℕ} {s : Judged} → JudgedInto words lent left r → JudgedInto words lent other s
+    → (r ≡ s) × (left ≡ other)
+one-outcome p q = (p .answered ∙ sym (q .answered), p .left-so ∙ sym (q .left-so))

@@ -1,14 +1,13 @@
--- The document's listing P: its parts are what the judgement asks, and its words are accepted with two transitions.
-use mathlib.Core.Path.{_≡_, refl, ap, _∙_}
+-- The document's listing P: its parts are what the checks ask, and its words are accepted with two transitions.
+use mathlib.Core.Path.{_≡_, refl, ap}
 use Rattle.table.specs.declared.Layout.{Layout}
-use Rattle.table.specs.declared.Checked.the-variants.{Sound}
-use Rattle.table.specs.Sections.{layout, checked}
-use Rattle.table.specs.Tables.{rowsIn, readsIn, chosenIn, formulaIn}
 use Rattle.table.specs.Rows.{formOf}
+use Rattle.table.specs.Sections.{layout}
 use Rattle.table.specs.Formula.{starAt, childrenAt, nodeAt, formulaAt}
+use Rattle.table.specs.Tables.{rowsIn, readsIn, chosenIn}
 use Rattle.table.specs.Example.{wordsOfP}
 use Rattle.table.proofs.Example.{P-is-sound}
-use Rattle.strategy.specs.Judge.{acceptedWith, judgedAs, judgedOf, Parts}
+use Rattle.strategy.specs.Judge.{acceptedWith, judgedAs, judgedOf, Parts, Covered}
 use Rattle.strategy.proofs.Held.{parts-of}
 
 abbrev layoutOfP : Layout
@@ -16,6 +15,10 @@ layoutOfP = layout 2 1 8 3
 
 pub P-has-parts : Parts (rowsIn wordsOfP layoutOfP) (readsIn wordsOfP layoutOfP) (chosenIn wordsOfP layoutOfP) 2 8
 P-has-parts = parts-of wordsOfP layoutOfP P-is-sound
+
+pub P-is-covered : Covered (rowsIn wordsOfP layoutOfP) (readsIn wordsOfP layoutOfP) (chosenIn wordsOfP layoutOfP) 2 8
+unfolding formOf starAt childrenAt nodeAt formulaAt
+P-is-covered = record { parts = P-has-parts; no-strangers = refl; none-missed = refl; none-doubled = refl }
 
 pub P-is-accepted : judgedOf wordsOfP ≡ acceptedWith layoutOfP 2
 unfolding formOf starAt childrenAt nodeAt formulaAt judgedOf

@@ -3,3 +3,4 @@ pub mod Strangers
 pub mod Placed
 pub mod Answers
 pub mod Example
+pub mod Exactly

@@ -120,7 +120,7 @@ module _ {rows reads chosen : List ℕ} {#V #N : ℕ} (c : Covered rows reads ch
   readied n = ready p choice n
 
   abbrev f : Formula
-  f = formulaOf rows reads chosen
+  f = formulaOf rows reads
 
   abbrev A : List Label
   A = proposalOf chosen

@@ -69,7 +69,7 @@ module _ (rows reads : List ℕ) where
     all-stand (only f) i t w = candidates-stand f i t w
     all-stand (f ⨾ fs) i t w = each-append InItsRow (candidates f) (candidates-stand f i t (w .0)) (all-stand fs _ _ (w .1))
 
-  candidate-by-kind : (f : Formula) → Writes rows reads f 0 0 → (l : ℕ) → l < size f → isCandidate f (ℓ l) ≡ eqb (kindOf rows l) 2
+  pub candidate-by-kind : (f : Formula) → Writes rows reads f 0 0 → (l : ℕ) → l < size f → isCandidate f (ℓ l) ≡ eqb (kindOf rows l) 2
   candidate-by-kind f w l h =
       same-answer _ _
       (λ e. let (c, t, q) = of-any (λ c. same (ℓ l) (c .label)) (candidates f) e in
@@ -78,23 +78,23 @@ module _ (rows reads : List ℕ) where
       (candidate-listed rows reads l f 0 0 w (record { from = omega arith; below = omega arith; kind = eqb-true (kindOf rows l) 2 e })) (same-refl (ℓ l)))
 
 module _ {rows reads chosen : List ℕ} {#V #N : ℕ} (p : Parts rows reads chosen #V #N) where
-  stranger-by-kind : (k : ℕ) → k < length chosen → isStranger rows chosen k ≡ not (isCandidate (formulaOf rows reads chosen) (ℓ (getD chosen k 0)))
+  stranger-by-kind : (k : ℕ) → k < length chosen → isStranger rows chosen k ≡ not (isCandidate (formulaOf rows reads) (ℓ (getD chosen k 0)))
   stranger-by-kind k h =
       let b = p .below k h in
       let n = rows-are p in
-      ap not (sym (candidate-by-kind rows reads (formulaOf rows reads chosen) (parts-write p) (getD chosen k 0) (omega arith)))
+      ap not (sym (candidate-by-kind rows reads (formulaOf rows reads) (parts-write p) (getD chosen k 0) (omega arith)))
 
   abbrev isNone : Label → Bool
-  isNone l = not (isCandidate (formulaOf rows reads chosen) l)
+  isNone l = not (isCandidate (formulaOf rows reads) l)
 
   pub first-stranger : first (isStranger rows chosen) (length chosen) < length chosen
       → (others : List Label)
-      × (strangers (formulaOf rows reads chosen) (proposalOf chosen) ≡ ℓ (getD chosen (first (isStranger rows chosen) (length chosen)) 0) ∷ others)
+      × (strangers (formulaOf rows reads) (proposalOf chosen) ≡ ℓ (getD chosen (first (isStranger rows chosen) (length chosen)) 0) ∷ others)
   first-stranger = offender isNone chosen (isStranger rows chosen) stranger-by-kind
 
-  pub no-stranger : length chosen ≤ first (isStranger rows chosen) (length chosen) → strangers (formulaOf rows reads chosen) (proposalOf chosen) ≡ []
+  pub no-stranger : length chosen ≤ first (isStranger rows chosen) (length chosen) → strangers (formulaOf rows reads) (proposalOf chosen) ≡ []
   no-stranger = none-offends isNone chosen (isStranger rows chosen) stranger-by-kind
 
   -- with no strangers, each chosen label's row is of kind 2
-  pub kinds-of : strangers (formulaOf rows reads chosen) (proposalOf chosen) ≡ [] → (k : ℕ) → k < length chosen → kindOf rows (getD chosen k 0) ≡ 2
+  pub kinds-of : strangers (formulaOf rows reads) (proposalOf chosen) ≡ [] → (k : ℕ) → k < length chosen → kindOf rows (getD chosen k 0) ≡ 2
   kinds-of e k h = eqb-true _ 2 (not-false _ (none-was-bad isNone chosen (isStranger rows chosen) stranger-by-kind e k h))

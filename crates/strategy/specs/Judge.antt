@@ -3,6 +3,7 @@
 use Prim.Native.Nat.{ℕ, _*_, _<_, _≤_}
 use mathlib.Core.Bool.{Bool, true, cond, not}
 use mathlib.Core.Path.{_≡_}
+use mathlib.Core.Logic.{_↔_}
 use mathlib.Core.List.{List, [], map}
 use lib.Dec.{eqb, ltb}
 use lib.ListN.{length, getD, take}
@@ -10,6 +11,7 @@ use Rattle.paper.specs.declared.Label.{Label}
 use Rattle.paper.specs.Formula.{ℓ, labels, Formula, WellFormed}
 use Rattle.paper.specs.Before.{before}
 use Rattle.paper.specs.Order.{order}
+use Rattle.paper.specs.Strategy.{Strategy}
 use Rattle.paper.specs.Transition.{keys}
 use Rattle.paper.specs.Judgement.{Judgement, accepted, refused, refuse, strangers, missed, doubled, onCycles, mostTransitions, judge}
 use Rattle.table.specs.declared.Layout.{Layout}
@@ -81,6 +83,18 @@ pub record JudgedInto (words lent left : List ℕ) (r : Judged) : Type 0 where
   pub left-so : left ≡ orderLeft words lent
   pub ordered : (l : Layout) (t : ℕ) → r ≡ acceptedWith l t → take (l .chosen) left ≡ orderOf (formulaIn words l) (proposalIn words l)
 
+-- What an acceptance says: sound words, whose strategy section is an assignment strategy of their formula (document 001,
+-- Definition 4), with t transitions, at most 65,535.
+pub record AcceptedSo (words : List ℕ) (l : Layout) (t : ℕ) : Type 0 where
+  pub sound : checked words ≡ Sound l
+  pub strategy : Strategy (l .variables) (formulaIn words l) (proposalIn words l)
+  pub count : t ≡ length (keys (formulaIn words l) (proposalIn words l))
+  pub few : length (keys (formulaIn words l) (proposalIn words l)) ≤ 65535
+
+-- words are accepted exactly if it is so (proofs/Exactly.antt)
+abbrev pub AcceptedExactly : List ℕ → Layout → ℕ → Type 0
+AcceptedExactly words l t = (judgedOf words ≡ acceptedWith l t) ↔ AcceptedSo words l t
+
 -- What the judgement of sound parts asks: rows that keep their rules, no deeper than 64, which so write the formula that is read
 -- from them, with reads that are variables, and chosen labels of those rows, strictly ascending.
 pub record Parts (rows reads chosen : List ℕ) (#V #N : ℕ) : Type 0 where
@@ -100,17 +114,16 @@ pub record Parts (rows reads chosen : List ℕ) (#V #N : ℕ) : Type 0 where
 abbrev pub isStranger : List ℕ → List ℕ → ℕ → Bool
 isStranger rows chosen k = not (eqb (kindOf rows (getD chosen k 0)) 2)
 
-module _ (rows reads chosen : List ℕ) where
-  -- the formula and the proposal of parts
-  abbrev pub formulaOf : Formula
-  formulaOf = formulaAt rows reads 64 0
+-- the formula of parts
+abbrev pub formulaOf : List ℕ → List ℕ → Formula
+formulaOf rows reads = formulaAt rows reads 64 0
 
-  -- parts that passed 10, 11 and 12
-  pub record Covered (#V #N : ℕ) : Type 0 where
-    pub parts : Parts rows reads chosen #V #N
-    pub no-strangers : strangers formulaOf (proposalOf chosen) ≡ []
-    pub none-missed : missed #V formulaOf (proposalOf chosen) ≡ []
-    pub none-doubled : doubled #V formulaOf (proposalOf chosen) ≡ []
+-- parts that passed 10, 11 and 12
+pub record Covered (rows reads chosen : List ℕ) (#V #N : ℕ) : Type 0 where
+  pub parts : Parts rows reads chosen #V #N
+  pub no-strangers : strangers (formulaOf rows reads) (proposalOf chosen) ≡ []
+  pub none-missed : missed #V (formulaOf rows reads) (proposalOf chosen) ≡ []
+  pub none-doubled : doubled #V (formulaOf rows reads) (proposalOf chosen) ≡ []
 
 -- 14, or an acceptance; 13, and what follows it
 abbrev pub judgeCount : ℕ → Formula → List Label → Judgement
@@ -127,10 +140,10 @@ countedAs l n = cond (ltb mostTransitions n) (refusedAt 14 0) (acceptedWith l n)
 module _ (rows reads chosen : List ℕ) (l : Layout) (lent left : List ℕ) (r : Judged) where
   -- the answer of the last two checks, and of all five; and what is left in the words lent for the order
   pub record OrderedParts : Type 0 where
-    pub answered : r ≡ answerOf l (judgeOrder (l .variables) (formulaOf rows reads chosen) (proposalOf chosen))
-    pub left-so : left ≡ written (orderOf (formulaOf rows reads chosen) (proposalOf chosen)) lent
+    pub answered : r ≡ answerOf l (judgeOrder (l .variables) (formulaOf rows reads) (proposalOf chosen))
+    pub left-so : left ≡ written (orderOf (formulaOf rows reads) (proposalOf chosen)) lent
 
   pub record JudgedParts : Type 0 where
-    pub answered : r ≡ answerOf l (judge (l .variables) (formulaOf rows reads chosen) (proposalOf chosen))
+    pub answered : r ≡ answerOf l (judge (l .variables) (formulaOf rows reads) (proposalOf chosen))
     pub left-so : left
-        ≡ leftBy (judge (l .variables) (formulaOf rows reads chosen) (proposalOf chosen)) (orderOf (formulaOf rows reads chosen) (proposalOf chosen)) lent
+        ≡ leftBy (judge (l .variables) (formulaOf rows reads) (proposalOf chosen)) (orderOf (formulaOf rows reads) (proposalOf chosen)) lent

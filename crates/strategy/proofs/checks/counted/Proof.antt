@@ -19,10 +19,14 @@ refused-requires : tie.Need-refused-requires
 refused-requires c κs = search needs
 
 returns : tie.Need-returns
-returns c = counted-past _ (c .before .before .total-of .ensures ∙ ap total (c .before .before .before .keys-of .ensures .0)) (c .before .if1 .taken) (c .refused .ensures)
+returns c =
+    let t = c .before .before in
+    counted-past _ (t .total-of .ensures ∙ ap total (t .before .keys-of .ensures .0)) (c .before .if1 .taken) (c .refused .ensures)
 
 returns-2 : tie.Need-returns-2
-returns-2 c = counted-fits _ (c .before .total-of .ensures ∙ ap total (c .before .before .keys-of .ensures .0)) (c .if1 .left)
+returns-2 c =
+    let t = c .before in
+    counted-fits _ (t .total-of .ensures ∙ ap total (t .before .keys-of .ensures .0)) (c .if1 .left)
 
 pub counted-spec : {M : Type 1} → statement M
 counted-spec =

@@ -32,7 +32,9 @@ kind-of-requires : tie.Need-kind-of-requires Inv-loop μ-loop
 kind-of-requires c κs = c .before .before .before .before .before .pre (c .before .before .loop .k) (c .before .loop-test .taken)
 
 returns : tie.Need-returns Inv-loop μ-loop
-returns c = sym (first-found _ _ _ (c .before .before .before .before .loop .inv .1) (c .before .before .before .loop-test .taken) (ap not (ne-eqb _ 2 (λ e. c .if1 .taken (c .before .kind-of .ensures ∙ e)))))
+returns c =
+    let t = c .before .before .before in
+    sym (first-found _ _ _ (t .before .loop .inv .1) (t .loop-test .taken) (ap not (ne-eqb _ 2 (λ e. c .if1 .taken (c .before .kind-of .ensures ∙ e)))))
 
 add-k : tie.Need-add-k Inv-loop μ-loop
 add-k c = search needs
@@ -41,10 +43,15 @@ loop-less : tie.Need-loop-less Inv-loop μ-loop
 loop-less c = search needs
 
 loop-again : tie.Need-loop-again Inv-loop μ-loop
-loop-again c = (omega arith, below-more _ _ (c .before .before .before .before .loop .inv .1) (ap not (eq-eqb _ 2 (sym (c .before .kind-of .ensures) ∙ c .if1 .left))))
+loop-again c =
+    let inv = c .before .before .before .before .loop .inv in
+    (omega arith, below-more _ _ (inv .1) (ap not (eq-eqb _ 2 (sym (c .before .kind-of .ensures) ∙ c .if1 .left))))
 
 returns-2 : tie.Need-returns-2 Inv-loop μ-loop
-returns-2 c = let e : c .before .loop .k ≡ length (now (c .before .before .before .before .args .chosen)) = omega arith in e ∙ sym (first-none _ _ (λ j h. c .before .loop .inv .1 j (omega arith)))
+returns-2 c =
+    let l = c .before .loop in
+    let e : l .k ≡ length (now (c .before .before .before .before .args .chosen)) = omega arith in
+    e ∙ sym (first-none _ _ (λ j h. l .inv .1 j (omega arith)))
 
 pub first-stranger-spec : {M : Type 1} → statement M
 first-stranger-spec =

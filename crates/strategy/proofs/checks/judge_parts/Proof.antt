@@ -19,7 +19,9 @@ refused-requires : tie.Need-refused-requires
 refused-requires c κs = search needs
 
 returns : tie.Need-returns
-returns c = stranger-refused _ (c .before .before .before .before .before .before .before .pre .0) (c .before .before .before .first-stranger .ensures) _ (c .before .before .if1 .taken) (c .refused .ensures)
+returns c =
+    let f = c .before .before .before in
+    stranger-refused _ (f .before .before .before .before .pre .0) (f .first-stranger .ensures) _ (c .before .before .if1 .taken) (c .refused .ensures)
 
 marks-of-requires : tie.Need-marks-of-requires
 marks-of-requires c κs = few-chosen (c .before .before .before .before .before .pre .0)
@@ -49,16 +51,39 @@ enum-told : tie.Need-enum-told
 enum-told c = search needs
 
 ordered-requires : tie.Need-ordered-requires
-ordered-requires c κs = (all-covered (c .before .before .before .before .before .before .before .before .before .before .before .before .before .before .args .l) (c .before .before .before .before .before .before .before .before .before .before .before .before .before .before .pre .0) (c .before .before .before .before .before .before .before .before .before .before .first-stranger .ensures) (c .before .before .before .before .before .before .before .before .marks-of .ensures) (c .before .before .before .before .before .before .before .before .before .if1 .left) (sym (c .before .before .before .before .covering-of .ensures) ∙ c .before .before .enum-told .given .1), c .before .before .before .before .before .before .before .before .marks-of .ensures, c .before .before .before .before .before .before .before .before .before .before .before .before .before .before .pre .1)
+ordered-requires c κs =
+    let v = c .before .before .before .before in
+    let m = v .before .before .before .before in
+    let a = m .before .before .before .before .before .before in (
+      all-covered (a .args .l) (a .pre .0) (m .before .before .first-stranger .ensures) (m .marks-of .ensures) (m .before .if1 .left)
+          (sym (v .covering-of .ensures) ∙ c .before .before .enum-told .given .1),
+      m .marks-of .ensures,
+      a .pre .1,
+    )
 
 returns-2 : tie.Need-returns-2
-returns-2 c = missed-refused _ (c .before .before .before .before .before .before .before .before .before .before .before .before .before .before .pre .0) (c .before .before .before .before .before .before .before .before .before .before .first-stranger .ensures) (c .before .before .before .before .before .before .before .before .marks-of .ensures) (c .before .before .before .before .before .before .before .before .before .if1 .left) _ (sym (c .before .before .before .before .covering-of .ensures) ∙ c .before .before .covering .given .1) (c .refused2 .ensures)
+returns-2 c =
+    let v = c .before .before .before .before in
+    let m = v .before .before .before .before in
+    let a = m .before .before .before .before .before .before in
+    missed-refused _ (a .pre .0) (m .before .before .first-stranger .ensures) (m .marks-of .ensures) (m .before .if1 .left)
+    _ (sym (v .covering-of .ensures) ∙ c .before .before .covering .given .1) (c .refused2 .ensures)
 
 returns-3 : tie.Need-returns-3
-returns-3 c = doubled-refused _ (c .before .before .before .before .before .before .before .before .before .before .before .before .before .before .pre .0) (c .before .before .before .before .before .before .before .before .before .before .first-stranger .ensures) (c .before .before .before .before .before .before .before .before .marks-of .ensures) (c .before .before .before .before .before .before .before .before .before .if1 .left) _ (sym (c .before .before .before .before .covering-of .ensures) ∙ c .before .before .covering2 .given .1) (c .refused3 .ensures)
+returns-3 c =
+    let v = c .before .before .before .before in
+    let m = v .before .before .before .before in
+    let a = m .before .before .before .before .before .before in
+    doubled-refused _ (a .pre .0) (m .before .before .first-stranger .ensures) (m .marks-of .ensures) (m .before .if1 .left)
+    _ (sym (v .covering-of .ensures) ∙ c .before .before .covering2 .given .1) (c .refused3 .ensures)
 
 returns-4 : tie.Need-returns-4
-returns-4 c = covered-judged _ (c .before .before .before .before .before .before .before .before .before .before .before .before .before .before .before .pre .0) (c .before .before .before .before .before .before .before .before .before .before .before .first-stranger .ensures) (c .before .before .before .before .before .before .before .before .before .marks-of .ensures) (c .before .before .before .before .before .before .before .before .before .before .if1 .left) (sym (c .before .before .before .before .before .covering-of .ensures) ∙ c .before .before .before .enum-told .given .1) (c .ordered .ensures)
+returns-4 c =
+    let v = c .before .before .before .before .before in
+    let m = v .before .before .before .before in
+    let a = m .before .before .before .before .before .before in
+    covered-judged _ (a .pre .0) (m .before .before .first-stranger .ensures) (m .marks-of .ensures) (m .before .if1 .left)
+    (sym (v .covering-of .ensures) ∙ c .before .before .before .enum-told .given .1) (c .ordered .ensures)
 
 pub judge-parts-spec : {M : Type 1} → statement M
 judge-parts-spec =
