@@ -21,7 +21,8 @@ pub enum Judged {
     Refused(Refusal),
 }
 
-// The answer to any words, with the reported order of an accepted table in the first S words of `order`.
+// The answer to any words, with the reported order of an accepted table in the first S words of `order`. The caller says that the
+// array has its length: a loan of one does not tell.
 pub fn judge_into(words: &[u16], order: &mut [u16; 2048]) -> Judged
     requires { ⌜ length (now order) ≡ 2048 ⌝ }
     ensures { λ r. ⌜ JudgedInto (now (words .entry)) (now (order .entry)) (now (order .exit)) r ⌝ }
