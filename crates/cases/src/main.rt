@@ -1,8 +1,9 @@
 // Runs a list of tables against the library, and prints for each case a line: its name, and what the library gives.
 //
 // The list is text on standard input, one case a line: NAME REQUEST [NUMBERS] : WORDS. `check` asks the table layer, and
-// prints `sound` with V, R, N and S, or `refused` with number and place. Fields are parted by spaces, commas or semicolons.
-// `#` starts a comment line; an empty line is passed over. Of a malformed line the column is printed where that shows.
+// prints `sound` with V, R, N and S; `judge` prints `accepted` with V, N, S and the transitions. A refusal prints `refused` with
+// number and place. Fields are parted by spaces, commas or semicolons. `#` starts a comment line; an empty line is passed over. Of
+// a malformed line the column is printed where that shows.
 mod heading; // what stands between a request and the words
 mod requests; // the requests, and what is printed of their answers
 mod scan; // the fields of a line

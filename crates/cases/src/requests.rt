@@ -2,10 +2,12 @@
 use crate::heading::Heading;
 use crate::scan::is_word;
 use crate::write;
+use nocturenc::Answer;
 use table::Checked;
 
 pub enum Request {
     Check,
+    Judge,
     Unknown,
 }
 
@@ -14,13 +16,18 @@ pub fn request_of(field: &[u8]) -> Request {
     if is_word(field, b"check") {
         return Request::Check;
     }
+    if is_word(field, b"judge") {
+        return Request::Judge;
+    }
     Request::Unknown
 }
 
 // Whether a request can be made with the numbers of a heading.
 pub fn takes(request: Request, heading: Heading) -> bool {
+    let numbers = heading.numbers;
     match request {
-        Request::Check => heading.numbers == 0,
+        Request::Check => numbers == 0,
+        Request::Judge => numbers == 0,
         Request::Unknown => false,
     }
 }
@@ -29,7 +36,8 @@ pub fn takes(request: Request, heading: Heading) -> bool {
 pub fn run(request: Request, heading: Heading, words: &[u16]) {
     match request {
         Request::Check => check(words),
-        Request::Unknown => {},
+        Request::Judge => judge(words),
+        Request::Unknown => {}
     }
 }
 
@@ -45,5 +53,20 @@ fn check(words: &[u16]) {
             write::number(l.chosen);
         }
         Checked::Refused(r) => write::refusal(r),
+    }
+}
+
+// What judge says of the words.
+fn judge(words: &[u16]) {
+    let found = nocturenc::requests::judge(words);
+    match found {
+        Answer::Accepted(c) => {
+            write::text(b" accepted");
+            write::number(c.variables);
+            write::number(c.rows);
+            write::number(c.chosen);
+            write::number(c.transitions);
+        }
+        Answer::Refused(r) => write::refusal(r),
     }
 }

@@ -143,5 +143,8 @@ module _ (rows marks : List ℕ) (left i : ℕ) where
     pub keys-number : total (keysAt rows marks left i) ≤ 65535 → total (keysAt rows marks left i) ≡ numberOf A (formulaAt rows reads left i)
     keys-number h = ap total keys-are ∙ held-exact (keyCountOf A (formulaAt rows reads left i)) (subst (λ k. total k ≤ 65535) keys-are h)
 
+    pub keys-number-within : numberOf A (formulaAt rows reads left i) ≤ 65535 → total (keysAt rows marks left i) ≡ numberOf A (formulaAt rows reads left i)
+    keys-number-within h = ap total keys-are ∙ held-within (keyCountOf A (formulaAt rows reads left i)) h
+
     pub keys-empty : keysAt rows marks left i .empty ≡ keyCountOf A (formulaAt rows reads left i) .empty
     keys-empty = ap (λ k. k .empty) keys-are

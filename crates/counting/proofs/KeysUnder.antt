@@ -30,7 +30,7 @@ abbrev pub AllWithin : ℕ → List ℕ → Type 0
 AllWithin b [] = Unit {0}
 AllWithin b (n ∷ ns) = (n ≤ b) × AllWithin b ns
 
-within-more : {b c : ℕ} (ns : List ℕ) → b ≤ c → AllWithin b ns → AllWithin c ns
+pub within-more : {b c : ℕ} (ns : List ℕ) → b ≤ c → AllWithin b ns → AllWithin c ns
 within-more [] h a = tt
 within-more (n ∷ ns) h a = (omega (arith, a .0), within-more ns h (a .1))
 
@@ -40,7 +40,7 @@ factors-some zero b h = absurd (omega (arith, zero-mul b))
 factors-some (suc a) zero h = absurd (omega (arith, mul-zero (suc a)))
 factors-some (suc a) (suc b) h = (omega arith, omega arith)
 
-factors-within : (ns : List ℕ) → 0 < productOf ns → AllWithin (productOf ns) ns
+pub factors-within : (ns : List ℕ) → 0 < productOf ns → AllWithin (productOf ns) ns
 factors-within [] h = tt
 factors-within (n ∷ ns) h =
     let (some, others) = factors-some n (productOf ns) h in

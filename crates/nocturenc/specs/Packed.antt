@@ -1,0 +1,31 @@
+-- An answer packed in one 64-bit number, for C. The top byte is the refusal number, 0 for accepted. Refused: the place in the
+-- low 32 bits. Accepted judge: the transition count from bit 0, S from bit 16, N from bit 29, V from bit 42. Accepted others: the
+-- number of words or bytes filled.
+use Prim.Native.Nat.{ℕ, _+_, _*_, _^_}
+use mathlib.Core.List.{List}
+use mathlib.Core.Path.{_≡_}
+use Rattle.nocturenc.specs.declared.Counts.{Counts}
+use Rattle.nocturenc.specs.declared.Answer.{Answer}
+use Rattle.nocturenc.specs.declared.Answer.the-variants as answer
+use Rattle.nocturenc.specs.declared.Filled.{Filled}
+use Rattle.nocturenc.specs.declared.Filled.the-variants as filled
+use Rattle.nocturenc.specs.Requests.{Outcome, filledOf, after}
+
+abbrev pub refusedAs : ℕ → ℕ → ℕ
+refusedAs number place = number * 2 ^ 56 + place
+
+abbrev pub countsOf : Counts → ℕ
+countsOf c = c .variables * 2 ^ 42 + c .rows * 2 ^ 29 + c .chosen * 2 ^ 16 + c .transitions
+
+unfoldable pub packedAnswer : Answer → ℕ
+packedAnswer (answer.Accepted c) = countsOf c
+packedAnswer (answer.Refused r) = refusedAs (r .number) (r .place)
+
+unfoldable pub packedFilled : Filled → ℕ
+packedFilled (filled.Done l) = l .count
+packedFilled (filled.Refused r) = refusedAs (r .number) (r .place)
+
+-- what a request that fills answers in one number, and leaves
+pub record FillsPacked (o : Outcome) (lent left : List ℕ) (n : ℕ) : Type 0 where
+  pub answered : n ≡ packedFilled (filledOf o)
+  pub left-so : left ≡ after o lent

@@ -1,0 +1,115 @@
+-- The four requests of document 01 ("Requests and what they give"): the answer to any words, and every lent word or byte
+-- afterwards.
+use Prim.Native.Nat.{ℕ, _≤_}
+use mathlib.Core.Bool.{Bool, cond}
+use mathlib.Core.List.{List, [], _++_, map}
+use mathlib.Core.Path.{_≡_}
+use lib.Dec.{eqb, ltb, leb}
+use lib.ListN.{length, getD, take, drop}
+use Rattle.paper.specs.declared.Label.{Label}
+use Rattle.paper.specs.Lists.{those}
+use Rattle.paper.specs.Formula.{has, Formula, labels}
+use Rattle.paper.specs.Before.{before}
+use Rattle.paper.specs.Order.{order}
+use Rattle.paper.specs.Transition.{keys, isKept}
+use Rattle.table.specs.declared.Layout.{Layout}
+use Rattle.table.specs.Sections.{refusal}
+use Rattle.table.specs.Tables.{formulaIn}
+use Rattle.strategy.specs.declared.Judged.{Judged}
+use Rattle.strategy.specs.declared.Judged.the-variants as judged
+use Rattle.strategy.specs.Judge.{judgedOf, proposalIn}
+use Rattle.nocturenc.specs.declared.Counts.{Counts}
+use Rattle.nocturenc.specs.declared.Answer.{Answer}
+use Rattle.nocturenc.specs.declared.Answer.the-variants as answer
+use Rattle.nocturenc.specs.declared.Filled.{Filled}
+use Rattle.nocturenc.specs.declared.Filled.the-variants as filled
+
+-- Judge: V, N, S and the transition count, or a refusal
+abbrev pub judgeAnswer : Judged → Answer
+judgeAnswer (judged.Accepted a) =
+    answer.Accepted (record { variables = a .layout .variables; rows = a .layout .rows; chosen = a .layout .chosen; transitions = a .transitions })
+judgeAnswer (judged.Refused r) = answer.Refused r
+
+unfoldable pub judgeOf : List ℕ → Answer
+judgeOf words = judgeAnswer (judgedOf words)
+
+-- the bounds of an accepted table's counts
+pub record FitCounts (c : Counts) : Type 0 where
+  pub variables-fit : c .variables ≤ 1024
+  pub rows-fit : c .rows ≤ 4096
+  pub chosen-fit : c .chosen ≤ 4096
+  pub transitions-fit : c .transitions ≤ 65535
+
+-- The formula and the proposal of words laid out so, the reported order, and transition k: its key, its kept labels.
+module _ (words : List ℕ) (l : Layout) where
+  abbrev pub reported : List Label
+  reported = order (before (formulaIn words l) (proposalIn words l)) (proposalIn words l)
+
+  abbrev pub keyOf : ℕ → List Label
+  keyOf k = getD (keys (formulaIn words l) (proposalIn words l)) k []
+
+  -- 1 for a kept label, else 0
+  abbrev pub markOf : ℕ → Label → ℕ
+  markOf k i = cond (isKept (formulaIn words l) (proposalIn words l) (keyOf k) i) 1 0
+
+  abbrev pub marksOf : ℕ → List ℕ
+  marksOf k = map (markOf k) (labels (formulaIn words l))
+
+  -- its chosen labels in reported order
+  abbrev pub assignedOf : ℕ → List ℕ
+  assignedOf k = map (λ i. i .0) (those (has (keyOf k)) reported)
+
+-- What a request that fills does with an accepted table: a refusal, or what stands at the front of the lent slice.
+pub data Outcome : Type 0 where
+  refuses : ℕ → ℕ → Outcome
+  fills : List ℕ → Outcome
+
+-- 16: the lent slice is too short
+abbrev pub unlessShort : ℕ → List ℕ → Outcome
+unlessShort room ws = cond (ltb room (length ws)) (refuses 16 (length ws)) (fills ws)
+
+-- 15: number k is not below the count; 18: transition k has not V chosen labels
+abbrev pub unlessAbsent : ℕ → ℕ → ℕ → List Label → Outcome → Outcome
+unlessAbsent k count #V key next = cond (leb count k) (refuses 15 count) (cond (eqb (length key) #V) next (refuses 18 k))
+
+abbrev pub orderOutcome : List ℕ → ℕ → Layout → ℕ → Outcome
+orderOutcome words room l count = unlessShort room (map (λ i. i .0) (reported words l))
+
+abbrev pub transitionOutcome : List ℕ → ℕ → ℕ → Layout → ℕ → Outcome
+transitionOutcome words k room l count = unlessAbsent k count (l .variables) (keyOf words l k) (unlessShort room (marksOf words l k))
+
+abbrev pub assignmentsOutcome : List ℕ → ℕ → ℕ → Layout → ℕ → Outcome
+assignmentsOutcome words k room l count = unlessAbsent k count (l .variables) (keyOf words l k) (unlessShort room (assignedOf words l k))
+
+-- the judgement first
+abbrev pub outcomeOf : Judged → (Layout → ℕ → Outcome) → Outcome
+outcomeOf (judged.Refused r) next = refuses (r .number) (r .place)
+outcomeOf (judged.Accepted a) next = next (a .layout) (a .transitions)
+
+-- the answer, and the lent slice afterwards: a refusal leaves it as it was, and what lies beyond what is filled stays
+abbrev pub filledOf : Outcome → Filled
+filledOf (refuses number place) = filled.Refused (refusal number place)
+filledOf (fills ws) = filled.Done (record { count = length ws })
+
+abbrev pub after : Outcome → List ℕ → List ℕ
+after (refuses number place) out = out
+after (fills ws) out = ws ++ drop (length ws) out
+
+-- Order: the first S words. Transition k: the first N bytes. Assignments of transition k: V words.
+unfoldable pub orderOf : List ℕ → ℕ → Outcome
+orderOf words room = outcomeOf (judgedOf words) (orderOutcome words room)
+
+unfoldable pub transitionOf : List ℕ → ℕ → ℕ → Outcome
+transitionOf words k room = outcomeOf (judgedOf words) (transitionOutcome words k room)
+
+unfoldable pub assignmentsOf : List ℕ → ℕ → ℕ → Outcome
+assignmentsOf words k room = outcomeOf (judgedOf words) (assignmentsOutcome words k room)
+
+-- what a request that fills answers and leaves
+pub record Fills (o : Outcome) (lent left : List ℕ) (r : Filled) : Type 0 where
+  pub answered : r ≡ filledOf o
+  pub left-so : left ≡ after o lent
+
+-- the first n words or bytes of `from`, and then what stood behind them
+unfoldable pub copied : List ℕ → ℕ → List ℕ → List ℕ
+copied from n out = take n from ++ drop n out

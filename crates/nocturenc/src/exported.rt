@@ -1,0 +1,58 @@
+// The requests for C: the words, the lent slice and the number k come in, and each answer goes out packed in one number.
+ghost use mathlib.Core.Path.{_≡_};
+ghost use lib.ListN.{length};
+ghost use Rattle.nocturenc.specs.Requests.{judgeOf, FitCounts, orderOf};
+ghost use Rattle.nocturenc.specs.Packed.{refusedAs, countsOf, packedAnswer, packedFilled, FillsPacked};
+use crate::Answer;
+use crate::Counts;
+use crate::Filled;
+use crate::requests::judge;
+use crate::requests::order;
+use table::Refusal;
+
+// A refusal: its number in the top byte, its place in the low 32 bits.
+fn packed_refusal(r: Refusal) -> u64
+    ensures { λ n. ⌜ n ≡ refusedAs (r .number) (r .place) ⌝ }
+{
+    (r.number as u64) * 72057594037927936 + (r.place as u64)
+}
+
+// The counts of an accepted table, each in its bits.
+fn packed_counts(c: Counts) -> u64
+    requires { ⌜ FitCounts c ⌝ }
+    ensures { λ n. ⌜ n ≡ countsOf c ⌝ }
+{
+    let rows = (c.rows as u64) * 536870912;
+    let chosen = (c.chosen as u64) * 65536;
+    (c.variables as u64) * 4398046511104 + rows + chosen + (c.transitions as u64)
+}
+
+// The answer of a request that fills.
+fn packed_filled(f: Filled) -> u64
+    ensures { λ n. ⌜ n ≡ packedFilled f ⌝ }
+{
+    match f {
+        Filled::Done(l) => l.count as u64,
+        Filled::Refused(r) => packed_refusal(r),
+    }
+}
+
+// Judges a table.
+#[no_mangle]
+pub extern "C" fn nocturenc_judge(words: &[u16]) -> u64
+    ensures { λ r. ⌜ r ≡ packedAnswer (judgeOf (now (words .entry))) ⌝ }
+{
+    let answer = judge(words);
+    match answer {
+        Answer::Accepted(c) => packed_counts(c),
+        Answer::Refused(r) => packed_refusal(r),
+    }
+}
+
+// Fills `out` with the reported order.
+#[no_mangle]
+pub extern "C" fn nocturenc_order(words: &[u16], out: &mut [u16]) -> u64
+    ensures { λ r. ⌜ FillsPacked (orderOf (now (words .entry)) (length (now (out .entry)))) (now (out .entry)) (now (out .exit)) r ⌝ }
+{
+    packed_filled(order(words, out))
+}

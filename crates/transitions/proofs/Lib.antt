@@ -1,0 +1,10 @@
+pub mod Sharing
+pub mod KeptRows
+pub mod MarkedBytes
+pub mod KeptBelow
+pub mod Taking
+pub mod Fronts
+pub mod Words
+pub mod Numbered
+pub mod Outcomes
+pub mod Example

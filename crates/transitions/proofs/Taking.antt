@@ -1,0 +1,135 @@
+-- The loop of `keep` over the expressions under a row: what is left for those still to come, together with the bytes set so far,
+-- gives what all of them give from the beginning.
+use Prim.Native.Nat.{ℕ, _-_, _<_, _≤_}
+use native.Mathlib.Omega.{arith}
+use mathlib.Core.Path.{_≡_, refl, sym, ap, subst, _∙_}
+use mathlib.Core.Bool.{Bool, true, false}
+use mathlib.Core.List.{List, _∷_}
+use lib.ListN.{length, set}
+use Rattle.paper.specs.declared.Label.{Label}
+use Rattle.paper.specs.Formula.{ℓ}
+use Rattle.paper.specs.Structure.Kept.{keptAt}
+use Rattle.table.specs.Rows.{kindOf, endOf}
+use Rattle.table.specs.Formula.{formulaAt}
+use Rattle.table.specs.Walk.{expressionsAt, firstAt, Walkable}
+use Rattle.table.proofs.Rules.{number-of}
+use Rattle.table.proofs.Walks.{Along, along-under, along-on, along-next}
+use Rattle.counting.specs.declared.Distinct.{Distinct}
+use Rattle.counting.specs.Marks.{Marked}
+use Rattle.counting.specs.Keys.{total, keysAt}
+use Rattle.counting.proofs.KeysUnder.{totalsFrom, numbers-step}
+use Rattle.transitions.specs.declared.Shares.{Shares}
+use Rattle.transitions.specs.declared.Turn.{Turn}
+use Rattle.transitions.specs.Kept.{CanTake, turnOf, sharesOf, markedBy, Keepable, KeptAfter}
+use Rattle.transitions.proofs.Sharing.{Fits, fits-take, fits-next, fits-on}
+use Rattle.transitions.proofs.KeptRows.{kept-none, kept-lone, eachUnder, keptIn, keptFrom, kept-step, kept-end, fits-under, kept-under}
+use Rattle.transitions.proofs.MarkedBytes.{marked-append}
+
+-- a walk that does not take place sets nothing, and a leaf's walk sets its own byte
+module _ {rows marks : List ℕ} {left i k : ℕ} {on : Bool} {out : List ℕ} where
+  pub kept-off : on ≡ false → KeptAfter rows marks left i k on out out
+  unfolding markedBy
+  kept-off off = record { bytes-are = λ A marked reads. rw off }
+
+  module _ (is-on : on ≡ true) where
+    pub set-with-none : left ≡ 0 → KeptAfter rows marks left i k on out (set out i 1)
+    unfolding markedBy
+    set-with-none none = record { bytes-are = λ A marked reads. rw (is-on, kept-none A rows reads left i k none) }
+
+    pub set-alone : {kind : ℕ} → (left ≡ 0 → ⊥) → kind ≡ kindOf rows i → kind < 3 → KeptAfter rows marks left i k on out (set out i 1)
+    unfolding markedBy
+    set-alone {kind} deep e low = record { bytes-are = λ A marked reads. rw (is-on, kept-lone A rows reads left i k deep kind e low) }
+
+-- The loop began with bytes out₀, shares s₀ and m₀ expressions from label c₀ on; now it stands at out, s, m and c.
+pub record Taking (rows marks : List ℕ) (#N left : ℕ) (out₀ : List ℕ) (s₀ : Shares) (c₀ : Label) (m₀ : ℕ) (out : List ℕ) (s : Shares) (c : Label) (m : ℕ)
+    : Type 0 where
+  pub same-length : length out ≡ length out₀
+  pub along : Along rows #N m (c .0)
+  pub fits : Fits s (totalsFrom rows marks (left - 1) m (c .0))
+  pub marks-all : (A : List Label) → Marked A marks → (reads : List ℕ)
+      → markedBy (keptFrom A rows marks reads (left - 1) s m (c .0)) out ≡ markedBy (keptFrom A rows marks reads (left - 1) s₀ m₀ (c₀ .0)) out₀
+
+-- at row i, whose kind word is that of a join, for key k
+module _ {rows marks : List ℕ} {#N i left k kind m₀ : ℕ} {c₀ : Label} {s₀ : Shares} {out₀ : List ℕ} {on : Bool} (e : kind ≡ kindOf rows i) (join : 2 < kind)
+    (deep : left ≡ 0 → ⊥) (p : Keepable rows marks out₀ #N i left k on) (is-on : on ≡ true) {keys : Distinct} (keys-is : keys ≡ keysAt rows marks left i)
+    (s-is : s₀ ≡ sharesOf (eachUnder kind) keys k) (m-is : m₀ ≡ expressionsAt rows i) (c-is : c₀ ≡ ℓ (firstAt rows i)) where
+  -- it holds as the loop begins
+  pub taking-begins : Taking rows marks #N left out₀ s₀ c₀ m₀ out₀ s₀ c₀ m₀
+  taking-begins = record {
+    same-length = refl;
+    along = rw (m-is, number-of c-is) (along-under (p .walkable));
+    fits = rw (m-is, number-of c-is, s-is, keys-is, e) (fits-under marks left k (p .walkable) deep (omega arith) (p .few is-on) (p .among is-on));
+    marks-all = λ A marked reads. refl;
+  }
+
+  -- with no expression left, the bytes are those of key k
+  pub taking-ends : {out : List ℕ} {s : Shares} {c : Label} {m : ℕ} → Taking rows marks #N left out₀ s₀ c₀ m₀ out s c m → m ≤ 0
+      → KeptAfter rows marks left i k on out₀ out
+  unfolding markedBy
+  taking-ends {out} {s} {c} {m} t done = record {
+    bytes-are = λ A marked reads. rw is-on
+        (ap (λ ls. markedBy ls out) (sym (kept-end A rows marks reads (left - 1) s m (c .0) (omega arith))) ∙ t .marks-all A marked reads
+        ∙ ap (λ ls. markedBy ls out₀) (sym (all A marked reads)));
+  }
+    where
+      all : (A : List Label) → Marked A marks → (reads : List ℕ)
+          → keptAt A (formulaAt rows reads left i) k ≡ keptFrom A rows marks reads (left - 1) s₀ m₀ (c₀ .0)
+      all A marked reads =
+          rw (m-is, number-of c-is, s-is, keys-is, e)
+          (kept-under marks left k (p .walkable) deep (omega arith) (p .few is-on) (p .among is-on) A marked reads)
+
+module _ {rows marks : List ℕ} {#N left : ℕ} {out₀ : List ℕ} {s₀ : Shares} {c₀ : Label} {m₀ : ℕ} {out : List ℕ} {s : Shares} {c : Label} {m : ℕ}
+    (t : Taking rows marks #N left out₀ s₀ c₀ m₀ out s c m) (some : 0 < m) where
+  -- in a turn the walk can go on at c
+  pub taking-on : Walkable rows #N (c .0)
+  taking-on = along-on (t .along) some
+
+  abbrev own : ℕ
+  own = total (keysAt rows marks (left - 1) (c .0))
+
+  abbrev others : List ℕ
+  others = totalsFrom rows marks (left - 1) (m - 1) (endOf rows (c .0))
+
+  fits-here : Fits s (own ∷ others)
+  fits-here = subst (Fits s) (numbers-step _ rows m (c .0) some) (t .fits)
+
+  -- the child there has n keys, and its turn is u
+  module _ {n : ℕ} (n-is : n ≡ own) where
+    pub taking-take : CanTake s n
+    taking-take = subst (CanTake s) (sym n-is) (fits-take own others s fits-here)
+
+    module _ {u : Turn} (u-is : u ≡ turnOf s n) where
+      turn-here : u ≡ turnOf s own
+      turn-here = u-is ∙ ap (turnOf s) n-is
+
+      -- it is asked only for a key of its own
+      pub taking-asks : #N ≤ length out₀ → Keepable rows marks out #N (c .0) (left - 1) (u .key) (u .on)
+      taking-asks room = record {
+        walkable = taking-on;
+        room = let e = t .same-length in omega arith;
+        few = λ on. fits-on own others s fits-here (sym (ap (λ u. u .on) turn-here) ∙ on) .0;
+        among = λ on. rw turn-here (fits-on own others s fits-here (sym (ap (λ u. u .on) turn-here) ∙ on) .1);
+      }
+
+      -- and after it, with what it keeps set and c moved to its end, it holds again
+      pub taking-turns : {out′ : List ℕ} {s′ : Shares} {c′ : Label} → length out′ ≡ length out
+          → KeptAfter rows marks (left - 1) (c .0) (u .key) (u .on) out out′ → s′ ≡ u .next → c′ ≡ ℓ (endOf rows (c .0))
+          → Taking rows marks #N left out₀ s₀ c₀ m₀ out′ s′ c′ (m - 1)
+      taking-turns {out′} {s′} {c′} same kept s-is c-is = record {
+        same-length = same ∙ t .same-length;
+        along = rw (number-of c-is) (along-next (t .along) some);
+        fits = rw (number-of c-is, next-is) (fits-next own others s fits-here);
+        marks-all = again;
+      }
+        where
+          next-is : s′ ≡ turnOf s own .next
+          next-is = s-is ∙ ap (λ u. u .next) turn-here
+
+          again : (A : List Label) → Marked A marks → (reads : List ℕ)
+              → markedBy (keptFrom A rows marks reads (left - 1) s′ (m - 1) (c′ .0)) out′ ≡ markedBy (keptFrom A rows marks reads (left - 1) s₀ m₀ (c₀ .0)) out₀
+          again A marked reads =
+              let turned = kept .bytes-are A marked reads ∙ ap (λ u. markedBy (keptIn A rows marks reads (left - 1) u (c .0)) out) turn-here in
+              let rest = keptFrom A rows marks reads (left - 1) (turnOf s own .next) (m - 1) (endOf rows (c .0)) in
+              rw (number-of c-is, next-is, turned)
+              (sym (marked-append (keptIn A rows marks reads (left - 1) (turnOf s own) (c .0)) rest out)
+              ∙ ap (λ ls. markedBy ls out) (sym (kept-step A rows marks reads (left - 1) s m (c .0) some)) ∙ t .marks-all A marked reads)

@@ -1,0 +1,16 @@
+-- `is_kept` reads the label's byte.
+use borrow.Author.Needs.{needs}
+use mathlib.Core.Path.{refl}
+use Rattle.transitions.specs.Assigned.{isKeptIn}
+use Rattle.transitions.proofs.assigned.is_kept.Statement.{statement}
+use Rattle.transitions.proofs.assigned.is_kept.Tie as tie
+
+shared-slice-read-result : tie.Need-shared-slice-read-result
+shared-slice-read-result c = search needs
+
+returns : tie.Need-returns
+unfolding isKeptIn
+returns c = refl
+
+pub is-kept-spec : {M : Type 1} → statement M
+is-kept-spec = tie.close (tie.spec shared-slice-read-result returns)

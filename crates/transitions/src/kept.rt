@@ -1,0 +1,150 @@
+// The labels that transition k keeps: quotient and remainder at a conjunction, whose first child is the most significant;
+// offset at a disjunction or an IF; all children where the only key is the empty one.
+ghost use mathlib.Core.Path.{_≡_};
+ghost use mathlib.Core.Bool.{true};
+ghost use mathlib.Core.List.{_++_};
+ghost use Prim.Native.Nat.{_≤_, _<_};
+ghost use lib.ListN.{length, drop, replicate};
+ghost use Rattle.table.specs.Walk.{Walkable};
+ghost use Rattle.counting.specs.Keys.{total, keysAt};
+ghost use Rattle.transitions.specs.Kept.{CanTake, turnOf, sharesOf, Keepable, KeptAfter, MarkedKept};
+use crate::Shares;
+use crate::Turn;
+use counting::Distinct;
+use counting::keys::keys_of;
+use counting::keys::total_of;
+use paper::Label;
+use table::rows::end_of;
+use table::rows::kind_of;
+use table::walk::expressions_of;
+use table::walk::first_of;
+
+// The turn of a child that has `own` keys.
+fn turn_of(s: Shares, own: u64) -> Turn
+    requires { ⌜ CanTake s own ⌝ }
+    ensures { λ r. ⌜ r ≡ turnOf s own ⌝ }
+{
+    match s {
+        Shares::Each(k, all) => {
+            let rest = all / own;
+            Turn {
+                on: true,
+                key: k / rest,
+                next: Shares::Each(k % rest, rest),
+            }
+        }
+        Shares::All => Turn {
+            on: own != 0,
+            key: 0,
+            next: Shares::All,
+        },
+        Shares::One(k) => {
+            if k < own {
+                return Turn {
+                    on: true,
+                    key: k,
+                    next: Shares::Done,
+                };
+            }
+            Turn {
+                on: false,
+                key: 0,
+                next: Shares::One(k - own),
+            }
+        }
+        Shares::Done => Turn {
+            on: false,
+            key: 0,
+            next: Shares::Done,
+        },
+    }
+}
+
+// How the children of a join take part in its key k: `each` for a conjunction, and for an exists, which has one child.
+fn shares_of(each: bool, keys: Distinct, k: u64) -> Shares
+    requires { ⌜ keys .more ≤ 65536 ⌝ }
+    ensures { λ r. ⌜ r ≡ sharesOf each keys k ⌝ }
+{
+    if each {
+        return Shares::Each(k, total_of(keys));
+    }
+    if keys.empty {
+        return Shares::All;
+    }
+    Shares::One(k)
+}
+
+// The number of keys of the formula at a row.
+fn number_at(rows: &[u16], marks: &[u8; 4096], n: u16, at: Label, left: u16) -> u64
+    requires { ⌜ Walkable (now rows) n (at .0) ⌝ }
+    ensures { λ r. ⌜ r ≡ total (keysAt (now (rows .entry)) (now (marks .entry)) left (at .0)) ⌝ }
+{
+    total_of(keys_of(rows, marks, n, at, left))
+}
+
+// Sets the bytes of the labels that key k of the formula at a row keeps, the formula being `left` levels deep at most; of none
+// where `on` is false.
+pub fn keep(
+    rows: &[u16],
+    marks: &[u8; 4096],
+    n: u16,
+    at: Label,
+    left: u16,
+    k: u64,
+    on: bool,
+    out: &mut [u8],
+)
+    requires { ⌜ Keepable (now rows) (now marks) (now out) n (at .0) left k on ⌝ }
+    ensures { λ _. ⌜ KeptAfter (now (rows .entry)) (now (marks .entry)) left (at .0) k on (now (out .entry)) (now (out .exit)) ⌝ }
+{
+    let i = at.0 as usize;
+    if !on {
+        return;
+    }
+    if left == 0 {
+        out[i] = 1;
+        return;
+    }
+    let kind = kind_of(rows, at);
+    match kind {
+        0..=2 => {
+            out[i] = 1;
+        }
+        3..=6 => {
+            let each = (kind == 3) | (kind == 5);
+            let mut s = shares_of(each, keys_of(rows, marks, n, at, left), k);
+            let mut c = first_of(rows, at);
+            let mut m = expressions_of(rows, at);
+            while 0 < m {
+                let t = turn_of(s, number_at(rows, marks, n, c, left - 1));
+                keep(rows, marks, n, c, left - 1, t.key, t.on, out);
+                s = t.next;
+                c = end_of(rows, c);
+                m -= 1;
+            }
+        }
+        7..=65535 => {}
+    }
+}
+
+// Sets the first n bytes to 0.
+fn clear(out: &mut [u8], n: u16)
+    requires { ⌜ n ≤ length (now out) ⌝ }
+    ensures { λ _. ⌜ now (out .exit) ≡ replicate n 0 ++ drop n (now (out .entry)) ⌝ }
+{
+    let end = n as usize;
+    let mut i = 0;
+    while i < end {
+        out[i] = 0;
+        i += 1;
+    }
+}
+
+// Fills the first n bytes with the marks of transition k: 1 for a kept label, else 0. The bytes after them stay.
+pub fn mark_kept(rows: &[u16], marks: &[u8; 4096], n: u16, k: u64, out: &mut [u8])
+    requires { ⌜ Keepable (now rows) (now marks) (now out) n 0 64 k true ⌝ }
+    ensures { λ _. ⌜ MarkedKept (now (rows .entry)) (now (marks .entry)) n k (now (out .entry)) (now (out .exit)) ⌝ }
+{
+    clear(out, n);
+    keep(rows, marks, n, Label(0), 64, k, true, out);
+}
