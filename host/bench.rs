@@ -1,11 +1,11 @@
-//! Times the archive beside the peer: the same requests on the same tables, on the same
+//! Times the archive beside the composed peer: the same requests on the same tables, on the same
 //! machine and in one run. Prints a Markdown table of microseconds per call, the median of
 //! several samples, and the ratio of the two.
 
 mod archive;
-#[allow(dead_code)] // The peer answers all four requests, this program puts two.
+#[allow(dead_code)] // The comparison uses all of the peer, this program only one of its ways.
 mod peer;
-#[allow(dead_code)] // More kinds of tables can be made than this program asks about.
+#[allow(dead_code)] // As above, for the tables.
 mod rng;
 #[allow(dead_code)]
 mod tables;
@@ -62,8 +62,9 @@ fn line(
     Ok(())
 }
 
-/// The order request on an accepted table.
+/// The other requests on an accepted table, with a transition from the middle of the numbers.
 fn accepted(title: &str, words: &[u16], counts: Counts) -> Result<(), String> {
+    let k = counts.transitions / 2;
     let mut ours = vec![0; counts.chosen];
     let mut theirs = ours.clone();
     line(
@@ -72,7 +73,22 @@ fn accepted(title: &str, words: &[u16], counts: Counts) -> Result<(), String> {
         &mut || archive::order(words, &mut ours),
         &mut || archive::filled_word(composed::order(words, &mut theirs)),
     )?;
-    if ours != theirs {
+    let mut our_marks = vec![0; counts.rows];
+    let mut their_marks = our_marks.clone();
+    line(
+        title,
+        "transition",
+        &mut || archive::transition(words, k, &mut our_marks),
+        &mut || archive::filled_word(composed::transition(words, k, &mut their_marks)),
+    )?;
+    let same = ours == theirs && our_marks == their_marks;
+    line(
+        title,
+        "assignments",
+        &mut || archive::assignments(words, k, &mut ours),
+        &mut || archive::filled_word(composed::assignments(words, k, &mut theirs)),
+    )?;
+    if !same || ours != theirs {
         return Err(format!(
             "{title}: the archive and the peer fill differently"
         ));

@@ -1,7 +1,11 @@
-//! The peer: document 01 worked out a second time, apart from the library, from the structure of the
-//! formula, so that it serves tables of full size.
+//! The peer: document 01 worked out a second time, apart from the library, in two ways.
+//!
+//! `definition` follows the definitions word for word and lists every branch, so it is for small
+//! tables only. `composed` gets the same answers from the structure of the formula and serves
+//! tables of full size. The two share nothing but the few names below.
 
 pub mod composed;
+pub mod definition;
 
 pub const MOST_VARIABLES: usize = 1_024;
 pub const MOST_READS: usize = 8_192;

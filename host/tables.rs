@@ -1,6 +1,10 @@
-//! Tables to ask about: a small formula type, its writer, and the generators.
+//! Tables for the comparison: a small formula type, its writer, and the generators.
 
+pub mod cases;
+pub mod damage;
+pub mod edges;
 pub mod large;
+pub mod many;
 pub mod random;
 pub mod typical;
 pub mod worst;

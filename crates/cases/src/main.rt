@@ -1,10 +1,12 @@
 // Runs a list of tables against the library, and prints for each case a line: its name, and what the library gives.
 //
 // The list is text on standard input, one case a line: NAME REQUEST [NUMBERS] : WORDS. `check` asks the table layer, and
-// prints `sound` with V, R, N and S; `judge` prints `accepted` with V, N, S and the transitions. A refusal prints `refused` with
-// number and place. Fields are parted by spaces, commas or semicolons. `#` starts a comment line; an empty line is passed over. Of
-// a malformed line the column is printed where that shows.
+// prints `sound` with V, R, N and S; `judge` prints `accepted` with V, N, S and the transitions; `order LEN`,
+// `transition K LEN` and `assignments K LEN` print `filled` with the count, and after a colon what the slice of LEN that they
+// were lent holds. A refusal prints `refused` with number and place. Fields are parted by spaces, commas or semicolons. `#`
+// starts a comment line; an empty line is passed over. Of a malformed line the column is printed where that shows.
 mod heading; // what stands between a request and the words
+mod lent; // the requests that fill a lent slice
 mod requests; // the requests, and what is printed of their answers
 mod scan; // the fields of a line
 mod words; // the words of a table, as a line writes them

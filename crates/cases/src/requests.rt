@@ -1,5 +1,6 @@
 // The requests that a case can make of the library, and what is printed of their answers.
 use crate::heading::Heading;
+use crate::lent;
 use crate::scan::is_word;
 use crate::write;
 use nocturenc::Answer;
@@ -8,6 +9,9 @@ use table::Checked;
 pub enum Request {
     Check,
     Judge,
+    Order,
+    Transition,
+    Assignments,
     Unknown,
 }
 
@@ -19,15 +23,30 @@ pub fn request_of(field: &[u8]) -> Request {
     if is_word(field, b"judge") {
         return Request::Judge;
     }
+    if is_word(field, b"order") {
+        return Request::Order;
+    }
+    if is_word(field, b"transition") {
+        return Request::Transition;
+    }
+    if is_word(field, b"assignments") {
+        return Request::Assignments;
+    }
     Request::Unknown
 }
 
 // Whether a request can be made with the numbers of a heading.
 pub fn takes(request: Request, heading: Heading) -> bool {
     let numbers = heading.numbers;
+    if lent::ROOM < heading.len {
+        return false;
+    }
     match request {
         Request::Check => numbers == 0,
         Request::Judge => numbers == 0,
+        Request::Order => numbers == 1,
+        Request::Transition => numbers == 2,
+        Request::Assignments => numbers == 2,
         Request::Unknown => false,
     }
 }
@@ -37,6 +56,9 @@ pub fn run(request: Request, heading: Heading, words: &[u16]) {
     match request {
         Request::Check => check(words),
         Request::Judge => judge(words),
+        Request::Order => lent::order(words, heading.len),
+        Request::Transition => lent::transition(words, heading.k, heading.len),
+        Request::Assignments => lent::assignments(words, heading.k, heading.len),
         Request::Unknown => {}
     }
 }

@@ -6,9 +6,13 @@ pub fn text(bytes: &[u8]) {
     io::write_all(STDOUT_FILENO, bytes);
 }
 
+pub fn digits(n: usize) {
+    io::print_decimal(STDOUT_FILENO, n as u64);
+}
+
 pub fn number(n: usize) {
     text(b" ");
-    io::print_decimal(STDOUT_FILENO, n as u64);
+    digits(n);
 }
 
 pub fn refusal(r: Refusal) {

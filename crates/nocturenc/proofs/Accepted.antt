@@ -4,8 +4,9 @@ use Prim.Native.Nat.{ℕ, _≤_}
 use native.Mathlib.Omega.{arith}
 use mathlib.Core.Path.{_≡_, refl, sym, ap, subst, _∙_}
 use mathlib.Core.Bool.{not}
-use mathlib.Core.List.{List}
+use mathlib.Core.List.{List, map}
 use lib.ListN.{length, take, length-map, length-take}
+use lib.Seq.{length-take-le, length-front}
 use Rattle.paper.specs.Formula.{ℓ, labels, isCandidate}
 use Rattle.paper.specs.Strategy.{Strategy}
 use Rattle.paper.specs.Transition.{keys}
@@ -14,16 +15,16 @@ use Rattle.paper.proofs.Lists.{to-none}
 use Rattle.paper.proofs.Labels.{mem-has}
 use Rattle.paper.proofs.Judgement.{accepted-exactly, accepted-only-so}
 use Rattle.table.specs.declared.Layout.{Layout}
-use Rattle.table.specs.declared.Refusal.{Refusal}
 use Rattle.table.specs.declared.Checked.{Checked}
 use Rattle.table.specs.declared.Checked.the-variants.{Sound, Refused}
 use Rattle.table.specs.Sections.{checked}
 use Rattle.table.specs.Tables.{Understood, formulaIn, chosenIn}
 use Rattle.table.proofs.Tables.{understood}
+use Rattle.ordering.specs.Prior.{written}
 use Rattle.strategy.specs.declared.Accepted.{Accepted}
 use Rattle.strategy.specs.declared.Judged.{Judged}
 use Rattle.strategy.specs.declared.Judged.the-variants as judged
-use Rattle.strategy.specs.Judge.{judgedOf, judgedAs, answerOf, proposalIn, JudgedInto}
+use Rattle.strategy.specs.Judge.{judgedOf, judgedAs, answerOf, proposalIn, orderLeft, JudgedInto}
 use Rattle.strategy.proofs.Held.{parts-of, chosen-rows}
 use Rattle.strategy.proofs.Strangers.{kinds-of}
 use Rattle.strategy.proofs.Placed.{order-length}
@@ -31,8 +32,8 @@ use Rattle.nocturenc.specs.declared.Counts.{Counts}
 use Rattle.nocturenc.specs.declared.Answer.{Answer}
 use Rattle.nocturenc.specs.declared.Answer.the-variants as answer
 use Rattle.nocturenc.specs.declared.Filled.{Filled}
-use Rattle.nocturenc.specs.declared.Filled.the-variants as filled
-use Rattle.nocturenc.specs.Requests.{judgeAnswer, judgeOf, FitCounts, reported, unlessShort, Fills, orderOf}
+use Rattle.nocturenc.specs.Requests.{judgeAnswer, judgeOf, FitCounts, reported, unlessShort, Fills, orderOutcome, orderOf, Ordered}
+use Rattle.nocturenc.proofs.Answers.{accepted-first}
 
 -- an acceptance comes from an acceptance
 abbrev layoutIn : Judged → Layout → Layout
@@ -98,6 +99,13 @@ module _ (words : List ℕ) (a : Accepted) (e : judgedOf words ≡ judged.Accept
       let none = to-none (λ x. not (isCandidate (formulaIn words (a .layout)) x)) (proposalIn words (a .layout)) (λ x t. ap not (is-strategy .homogeneous x (mem-has t))) in
       omega (arith, chosen-rows p (kinds-of p none) .few, is-understood .chosen-there)
 
+  -- the reported order places all chosen labels
+  pub reported-length : length (reported words (a .layout)) ≡ a .layout .chosen
+  reported-length =
+      let l = a .layout in
+      order-length (formulaIn words l) (proposalIn words l) (is-understood .within .chosen-ascend) (is-strategy .acyclic)
+      ∙ length-map (chosenIn words l) ℓ ∙ is-understood .chosen-there
+
 -- the counts of a judge request
 abbrev countsIn : Answer → Counts → Counts
 countsIn (answer.Accepted c) other = c
@@ -123,17 +131,23 @@ module _ (words order₀ order : List ℕ) (j : Judged) (i : JudgedInto words or
     -- it is all there
     pub order-there : (a .layout .chosen ≤ length order) × (a .layout .chosen ≤ 2048)
     order-there =
-        let l = a .layout in
-        let u = is-understood words a accepts in
-        let many = order-length (formulaIn words l) (proposalIn words l) (u .within .chosen-ascend) (is-strategy words a accepts .acyclic) in
-        let taken = ap length (i .ordered l (a .transitions) e) ∙ length-map (reported words l) (λ x. x .0) ∙ many ∙ length-map (chosenIn words l) ℓ ∙ u .chosen-there in
+        let taken = ap length (i .ordered (a .layout) (a .transitions) e) ∙ length-map (reported words (a .layout)) (λ x. x .0) ∙ reported-length words a accepts in
         (omega (arith, simp length-take at taken), few-chosen words a accepts)
+
+    pub order-stands : Ordered words a order
+    order-stands = record { accepted = accepts; in-front = i .ordered (a .layout) (a .transitions) e }
+
+    -- and the words lent for it are as many as they were
+    pub order-as-long : length order₀ ≡ 2048 → length order ≡ 2048
+    unfolding orderLeft written
+    order-as-long n =
+        let l = a .layout in
+        let o = map (λ x. x .0) (reported words l) in
+        let many = length-map (reported words l) (λ x. x .0) ∙ reported-length words a accepts in
+        let few = few-chosen words a accepts in
+        let left = rw (is-sound words a accepts, all-passed words a accepts .accepts) at (i .left-so) in
+        ap length left ∙ length-front order₀ o (length o) (sym (length-take-le (length o) order₀ (omega arith))) ∙ n
 
     pub order-filled : {lent left : List ℕ} {r : Filled} → Fills (unlessShort (length lent) (take (a .layout .chosen) order)) lent left r
         → Fills (orderOf words (length lent)) lent left r
-    unfolding orderOf
-    order-filled f = rw (accepts, ← i .ordered (a .layout) (a .transitions) e) f
-
-  pub order-refused : (x : Refusal) (lent : List ℕ) → j ≡ judged.Refused x → Fills (orderOf words (length lent)) lent lent (filled.Refused x)
-  unfolding orderOf
-  order-refused x lent e = let refuses = sym (i .answered) ∙ e in rw refuses (record { answered = refl; left-so = refl })
+    order-filled {lent} f = accepted-first words j (i .answered) a e (orderOutcome words (length lent)) (rw (← i .ordered (a .layout) (a .transitions) e) f)

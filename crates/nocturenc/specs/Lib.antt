@@ -1,2 +1,4 @@
 pub mod Requests
 pub mod Packed
+pub mod Demands
+pub mod Cases

@@ -1,9 +1,10 @@
 -- An answer packed in one 64-bit number, for C. The top byte is the refusal number, 0 for accepted. Refused: the place in the
 -- low 32 bits. Accepted judge: the transition count from bit 0, S from bit 16, N from bit 29, V from bit 42. Accepted others: the
 -- number of words or bytes filled.
-use Prim.Native.Nat.{ℕ, _+_, _*_, _^_}
+use Prim.Native.Nat.{ℕ, _+_, _*_, _/_, _%_, _^_}
 use mathlib.Core.List.{List}
 use mathlib.Core.Path.{_≡_}
+use Rattle.table.specs.declared.Refusal.{Refusal}
 use Rattle.nocturenc.specs.declared.Counts.{Counts}
 use Rattle.nocturenc.specs.declared.Answer.{Answer}
 use Rattle.nocturenc.specs.declared.Answer.the-variants as answer
@@ -29,3 +30,15 @@ packedFilled (filled.Refused r) = refusedAs (r .number) (r .place)
 pub record FillsPacked (o : Outcome) (lent left : List ℕ) (n : ℕ) : Type 0 where
   pub answered : n ≡ packedFilled (filledOf o)
   pub left-so : left ≡ after o lent
+
+-- what C reads from an answer: the refusal number and its place; the counts, where it is accepted
+pub record ReadRefusal (r : Refusal) (n : ℕ) : Type 0 where
+  pub number-is : n / 2 ^ 56 ≡ r .number
+  pub place-is : n % 2 ^ 32 ≡ r .place
+
+pub record ReadCounts (c : Counts) (n : ℕ) : Type 0 where
+  pub no-refusal : n / 2 ^ 56 ≡ 0
+  pub variables-are : n / 2 ^ 42 ≡ c .variables
+  pub rows-are : n / 2 ^ 29 % 2 ^ 13 ≡ c .rows
+  pub chosen-are : n / 2 ^ 16 % 2 ^ 13 ≡ c .chosen
+  pub transitions-are : n % 2 ^ 16 ≡ c .transitions

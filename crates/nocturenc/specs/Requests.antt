@@ -1,6 +1,6 @@
 -- The four requests of document 01 ("Requests and what they give"): the answer to any words, and every lent word or byte
 -- afterwards.
-use Prim.Native.Nat.{ℕ, _≤_}
+use Prim.Native.Nat.{ℕ, _≤_, _<_}
 use mathlib.Core.Bool.{Bool, cond}
 use mathlib.Core.List.{List, [], _++_, map}
 use mathlib.Core.Path.{_≡_}
@@ -15,6 +15,7 @@ use Rattle.paper.specs.Transition.{keys, isKept}
 use Rattle.table.specs.declared.Layout.{Layout}
 use Rattle.table.specs.Sections.{refusal}
 use Rattle.table.specs.Tables.{formulaIn}
+use Rattle.strategy.specs.declared.Accepted.{Accepted}
 use Rattle.strategy.specs.declared.Judged.{Judged}
 use Rattle.strategy.specs.declared.Judged.the-variants as judged
 use Rattle.strategy.specs.Judge.{judgedOf, proposalIn}
@@ -75,14 +76,18 @@ unlessAbsent k count #V key next = cond (leb count k) (refuses 15 count) (cond (
 abbrev pub orderOutcome : List ℕ → ℕ → Layout → ℕ → Outcome
 orderOutcome words room l count = unlessShort room (map (λ i. i .0) (reported words l))
 
+-- what is asked of transition k
+unfoldable pub ofTransition : (List ℕ → Layout → ℕ → List ℕ) → List ℕ → ℕ → ℕ → Layout → ℕ → Outcome
+ofTransition what words k room l count = unlessAbsent k count (l .variables) (keyOf words l k) (unlessShort room (what words l k))
+
 abbrev pub transitionOutcome : List ℕ → ℕ → ℕ → Layout → ℕ → Outcome
-transitionOutcome words k room l count = unlessAbsent k count (l .variables) (keyOf words l k) (unlessShort room (marksOf words l k))
+transitionOutcome = ofTransition marksOf
 
 abbrev pub assignmentsOutcome : List ℕ → ℕ → ℕ → Layout → ℕ → Outcome
-assignmentsOutcome words k room l count = unlessAbsent k count (l .variables) (keyOf words l k) (unlessShort room (assignedOf words l k))
+assignmentsOutcome = ofTransition assignedOf
 
 -- the judgement first
-abbrev pub outcomeOf : Judged → (Layout → ℕ → Outcome) → Outcome
+unfoldable pub outcomeOf : Judged → (Layout → ℕ → Outcome) → Outcome
 outcomeOf (judged.Refused r) next = refuses (r .number) (r .place)
 outcomeOf (judged.Accepted a) next = next (a .layout) (a .transitions)
 
@@ -96,13 +101,13 @@ after (refuses number place) out = out
 after (fills ws) out = ws ++ drop (length ws) out
 
 -- Order: the first S words. Transition k: the first N bytes. Assignments of transition k: V words.
-unfoldable pub orderOf : List ℕ → ℕ → Outcome
+abbrev pub orderOf : List ℕ → ℕ → Outcome
 orderOf words room = outcomeOf (judgedOf words) (orderOutcome words room)
 
-unfoldable pub transitionOf : List ℕ → ℕ → ℕ → Outcome
+abbrev pub transitionOf : List ℕ → ℕ → ℕ → Outcome
 transitionOf words k room = outcomeOf (judgedOf words) (transitionOutcome words k room)
 
-unfoldable pub assignmentsOf : List ℕ → ℕ → ℕ → Outcome
+abbrev pub assignmentsOf : List ℕ → ℕ → ℕ → Outcome
 assignmentsOf words k room = outcomeOf (judgedOf words) (assignmentsOutcome words k room)
 
 -- what a request that fills answers and leaves
@@ -113,3 +118,29 @@ pub record Fills (o : Outcome) (lent left : List ℕ) (r : Filled) : Type 0 wher
 -- the first n words or bytes of `from`, and then what stood behind them
 unfoldable pub copied : List ℕ → ℕ → List ℕ → List ℕ
 copied from n out = take n from ++ drop n out
+
+-- What an accepted table's requests fill: S words, N bytes, V words. Each of its transitions has V chosen labels, so 18 is never met.
+pub record Amounts (words : List ℕ) (a : Accepted) : Type 0 where
+  pub order-is : length (reported words (a .layout)) ≡ a .layout .chosen
+  pub transition-is : (k : ℕ) → length (marksOf words (a .layout) k) ≡ a .layout .rows
+  pub assignments-are : (k : ℕ) → k < a .transitions → length (assignedOf words (a .layout) k) ≡ a .layout .variables
+  pub each-whole : (k : ℕ) → k < a .transitions → length (keyOf words (a .layout) k) ≡ a .layout .variables
+
+-- For a caller that has judged: the words are accepted so; the order stands at the front of some words.
+abbrev pub AcceptedAs : List ℕ → Accepted → Type 0
+AcceptedAs words a = judgedOf words ≡ judged.Accepted a
+
+pub record Ordered (words : List ℕ) (a : Accepted) (order : List ℕ) : Type 0 where
+  pub accepted : AcceptedAs words a
+  pub in-front : take (a .layout .chosen) order ≡ map (λ i. i .0) (reported words (a .layout))
+
+-- transition k is there, and a byte for each of 4,096 labels
+pub record Asked (words : List ℕ) (a : Accepted) (k : ℕ) (kept : List ℕ) : Type 0 where
+  pub accepted : AcceptedAs words a
+  pub there : k < a .transitions
+  pub room : length kept ≡ 4096
+
+-- the bytes of transition k stand in front of what was there, and how many chosen labels it keeps
+pub record Kept (words : List ℕ) (l : Layout) (k : ℕ) (lent left : List ℕ) (chosen : ℕ) : Type 0 where
+  pub bytes : left ≡ marksOf words l k ++ drop (length (marksOf words l k)) lent
+  pub many : chosen ≡ length (keyOf words l k)

@@ -1,13 +1,15 @@
 // The requests for C: the words, the lent slice and the number k come in, and each answer goes out packed in one number.
 ghost use mathlib.Core.Path.{_≡_};
 ghost use lib.ListN.{length};
-ghost use Rattle.nocturenc.specs.Requests.{judgeOf, FitCounts, orderOf};
+ghost use Rattle.nocturenc.specs.Requests.{judgeOf, FitCounts, orderOf, transitionOf, assignmentsOf};
 ghost use Rattle.nocturenc.specs.Packed.{refusedAs, countsOf, packedAnswer, packedFilled, FillsPacked};
 use crate::Answer;
 use crate::Counts;
 use crate::Filled;
+use crate::requests::assignments;
 use crate::requests::judge;
 use crate::requests::order;
+use crate::requests::transition;
 use table::Refusal;
 
 // A refusal: its number in the top byte, its place in the low 32 bits.
@@ -55,4 +57,20 @@ pub extern "C" fn nocturenc_order(words: &[u16], out: &mut [u16]) -> u64
     ensures { λ r. ⌜ FillsPacked (orderOf (now (words .entry)) (length (now (out .entry)))) (now (out .entry)) (now (out .exit)) r ⌝ }
 {
     packed_filled(order(words, out))
+}
+
+// Fills `out` with a byte for each label: 1 if transition k keeps it, else 0.
+#[no_mangle]
+pub extern "C" fn nocturenc_transition(words: &[u16], k: usize, out: &mut [u8]) -> u64
+    ensures { λ r. ⌜ FillsPacked (transitionOf (now (words .entry)) k (length (now (out .entry)))) (now (out .entry)) (now (out .exit)) r ⌝ }
+{
+    packed_filled(transition(words, k, out))
+}
+
+// Fills `out` with the chosen labels of transition k, in reported order.
+#[no_mangle]
+pub extern "C" fn nocturenc_assignments(words: &[u16], k: usize, out: &mut [u16]) -> u64
+    ensures { λ r. ⌜ FillsPacked (assignmentsOf (now (words .entry)) k (length (now (out .entry)))) (now (out .entry)) (now (out .exit)) r ⌝ }
+{
+    packed_filled(assignments(words, k, out))
 }

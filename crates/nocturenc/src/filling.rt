@@ -30,6 +30,18 @@ fn copy_words(from: &[u16; 2048], count: usize, out: &mut [u16])
     }
 }
 
+// Copies the first `n` bytes.
+fn copy_bytes(from: &[u8; 4096], n: usize, out: &mut [u8])
+    requires { ⌜ (n ≤ length (now from)) × (n ≤ 4096) × (n ≤ length (now out)) ⌝ }
+    ensures { λ _. ⌜ now (out .exit) ≡ copied (now (from .entry)) n (now (out .entry)) ⌝ }
+{
+    let mut i = 0;
+    while i < n {
+        out[i] = from[i];
+        i += 1;
+    }
+}
+
 // 16, or the first `count` words at the front of `out`.
 pub fn fill_words(from: &[u16; 2048], count: usize, out: &mut [u16]) -> Filled
     requires { ⌜ (count ≤ length (now from)) × (count ≤ 2048) ⌝ }
@@ -40,4 +52,16 @@ pub fn fill_words(from: &[u16; 2048], count: usize, out: &mut [u16]) -> Filled
     }
     copy_words(from, count, out);
     Filled::Done(Length { count })
+}
+
+// 16, or the first `n` bytes at the front of `out`.
+pub fn fill_bytes(from: &[u8; 4096], n: usize, out: &mut [u8]) -> Filled
+    requires { ⌜ (n ≤ length (now from)) × (n ≤ 4096) ⌝ }
+    ensures { λ r. ⌜ Fills (unlessShort (length (now (out .entry))) (take n (now (from .entry)))) (now (out .entry)) (now (out .exit)) r ⌝ }
+{
+    if out.len() < n {
+        return refused(16, n);
+    }
+    copy_bytes(from, n, out);
+    Filled::Done(Length { count: n })
 }

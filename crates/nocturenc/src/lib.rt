@@ -1,5 +1,6 @@
 // The four requests of document 01 over any words: judge, order, transition k, assignments of transition k.
 pub mod requests; // the requests
+pub mod judged; // transitions and assignments, for a caller that has judged
 mod filling; // the lent slice and the answer of a request that fills
 pub mod exported; // the same for C, each answer packed in one number
 

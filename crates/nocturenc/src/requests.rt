@@ -1,11 +1,13 @@
 // The requests. Each judges the whole table first; a refusal writes nothing.
 ghost use mathlib.Core.Path.{_≡_};
 ghost use lib.ListN.{length};
-ghost use Rattle.nocturenc.specs.Requests.{judgeOf, orderOf, Fills};
+ghost use Rattle.nocturenc.specs.Requests.{judgeOf, orderOf, transitionOf, assignmentsOf, Fills};
 use crate::Answer;
 use crate::Counts;
 use crate::Filled;
 use crate::filling::fill_words;
+use crate::judged::assignments_of;
+use crate::judged::transition_of;
 use strategy::Judged;
 use strategy::judge_into;
 
@@ -39,6 +41,29 @@ pub fn order(words: &[u16], out: &mut [u16]) -> Filled
             let l = a.layout;
             fill_words(&reported, l.chosen, out)
         }
+        Judged::Refused(r) => Filled::Refused(r),
+    }
+}
+
+// The kept labels of transition k, in the first N bytes of `out`: 1 for a kept label, else 0.
+pub fn transition(words: &[u16], k: usize, out: &mut [u8]) -> Filled
+    ensures { λ r. ⌜ Fills (transitionOf (now (words .entry)) k (length (now (out .entry)))) (now (out .entry)) (now (out .exit)) r ⌝ }
+{
+    let judged = strategy::judge(words);
+    match judged {
+        Judged::Accepted(a) => transition_of(words, a, k, out),
+        Judged::Refused(r) => Filled::Refused(r),
+    }
+}
+
+// The chosen labels of transition k in reported order, in the first V words of `out`.
+pub fn assignments(words: &[u16], k: usize, out: &mut [u16]) -> Filled
+    ensures { λ r. ⌜ Fills (assignmentsOf (now (words .entry)) k (length (now (out .entry)))) (now (out .entry)) (now (out .exit)) r ⌝ }
+{
+    let mut reported = [0u16; 2048];
+    let judged = judge_into(words, &mut reported);
+    match judged {
+        Judged::Accepted(a) => assignments_of(words, a, &reported, k, out),
         Judged::Refused(r) => Filled::Refused(r),
     }
 }

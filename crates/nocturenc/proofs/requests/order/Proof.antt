@@ -1,7 +1,8 @@
 -- The order that the judgement leaves is copied into the lent slice, or the refusal is the answer.
 use mathlib.Core.Path.{refl}
 use borrow.Author.Needs.{needs}
-use Rattle.nocturenc.proofs.Accepted.{order-there, order-filled, order-refused}
+use Rattle.nocturenc.proofs.Accepted.{order-there, order-filled}
+use Rattle.nocturenc.proofs.Answers.{refused-first}
 use Rattle.nocturenc.proofs.requests.order.Statement.{statement}
 use Rattle.nocturenc.proofs.requests.order.Tie as tie
 
@@ -24,7 +25,7 @@ returns : tie.Need-returns
 returns c = order-filled _ _ _ _ (c .before .before .before .before .before .before .before .before .before .judge-into .ensures) _ (c .before .before .before .before .before .before .before .judged .given .1) (c .before .before .fill-words .ensures)
 
 returns-2 : tie.Need-returns-2
-returns-2 c = order-refused _ _ _ _ (c .before .before .before .judge-into .ensures) _ _ (c .before .judged2 .given .1)
+returns-2 c = refused-first _ _ (c .before .before .before .judge-into .ensures .answered) _ (c .before .judged2 .given .1) _ _
 
 pub order-spec : {M : Type 1} → statement M
 order-spec =

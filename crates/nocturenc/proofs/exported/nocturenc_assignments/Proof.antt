@@ -1,0 +1,22 @@
+-- The answer is packed, and the lent slice is as the request leaves it.
+use mathlib.Core.Path.{ap, _∙_}
+use borrow.Author.Needs.{needs}
+use Rattle.nocturenc.specs.Packed.{packedFilled}
+use Rattle.nocturenc.proofs.exported.nocturenc_assignments.Statement.{statement}
+use Rattle.nocturenc.proofs.exported.nocturenc_assignments.Tie as tie
+
+assignments-requires : tie.Need-assignments-requires
+assignments-requires c κs = search needs
+
+packed-filled-requires : tie.Need-packed-filled-requires
+packed-filled-requires c κs = search needs
+
+same-length : tie.Need-same-length
+same-length c = search needs
+
+returns : tie.Need-returns
+returns c = record { answered = c .packed-filled .ensures ∙ ap packedFilled (c .before .before .before .assignments .ensures .answered); left-so = c .before .before .before .assignments .ensures .left-so }
+
+pub nocturenc-assignments-spec : {M : Type 1} → statement M
+nocturenc-assignments-spec =
+    tie.close (tie.spec assignments-requires packed-filled-requires same-length returns)

@@ -1,0 +1,22 @@
+-- The answer is packed, and the lent slice is as the request leaves it.
+use mathlib.Core.Path.{ap, _∙_}
+use borrow.Author.Needs.{needs}
+use Rattle.nocturenc.specs.Packed.{packedFilled}
+use Rattle.nocturenc.proofs.exported.nocturenc_transition.Statement.{statement}
+use Rattle.nocturenc.proofs.exported.nocturenc_transition.Tie as tie
+
+transition-requires : tie.Need-transition-requires
+transition-requires c κs = search needs
+
+packed-filled-requires : tie.Need-packed-filled-requires
+packed-filled-requires c κs = search needs
+
+same-length : tie.Need-same-length
+same-length c = search needs
+
+returns : tie.Need-returns
+returns c = record { answered = c .packed-filled .ensures ∙ ap packedFilled (c .before .before .before .transition .ensures .answered); left-so = c .before .before .before .transition .ensures .left-so }
+
+pub nocturenc-transition-spec : {M : Type 1} → statement M
+nocturenc-transition-spec =
+    tie.close (tie.spec transition-requires packed-filled-requires same-length returns)
