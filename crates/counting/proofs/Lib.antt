@@ -6,3 +6,4 @@ pub mod CoveringExample
 pub mod LeafLabels
 pub mod KeyNumbers
 pub mod KeysUnder
+pub mod OneOutcome

@@ -16,7 +16,7 @@ use Rattle.paper.proofs.Bools.{pick}
 use Rattle.paper.proofs.Lists.{any-append}
 use Rattle.paper.proofs.Readings.{AtLeaves, AtLeavesOf}
 use Rattle.table.specs.Written.{size, labelsOn}
-use Rattle.counting.specs.Marks.{isMarked, Marked}
+use Rattle.counting.specs.Marks.{isMarked, Marked, AllBelow}
 
 pub marked-none : Marked [] (replicate 4096 0)
 unfolding isMarked
@@ -39,6 +39,28 @@ marked-more chosen {marks} k m h below = record {
       let i = getD chosen k 0 in
       mark-more marks i l (rw (m .size) below) ∙ rw (m .marks-are l g, add-one k, take-suc chosen k 0 h, map-append, any-append, or-false (eqb l i));
 }
+
+-- the bytes are 0 and 1
+pub bits-none : AllBelow 2 (replicate 4096 0)
+bits-none l h =
+    let size = length-replicate {A = ℕ} 4096 0 in
+    let e = getD-replicate {A = ℕ} 4096 l 0 0 (omega arith) in
+    omega arith
+
+pub bits-more : (marks : List ℕ) (i : ℕ) → AllBelow 2 marks → AllBelow 2 (set marks i 1)
+bits-more marks i bits l h = by (eqb l i) refl
+  where
+    by : (t : Bool) → eqb l i ≡ t → getD (set marks i 1) l 0 < 2
+    by true e =
+        let same = eqb-true l i e in
+        let size = length-set marks i 1 in
+        let q = getD-set-same marks i 1 0 (omega arith) in
+        rw same (omega arith)
+    by false e =
+        let size = length-set marks i 1 in
+        let q = getD-set-other marks i l 1 0 (eqb-false l i e) in
+        let b = bits l (omega arith) in
+        omega arith
 
 -- what holds of each label of a formula holds at its leaves
 module _ (P : Label → Type 0) where

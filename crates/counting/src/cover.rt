@@ -16,7 +16,7 @@ use table::walk::expressions_of;
 use table::walk::first_of;
 
 // What a conjunction starts from, one branch with nothing on it, and any other join, no branch.
-pub fn unit_of(conj: bool) -> Words
+fn unit_of(conj: bool) -> Words
     ensures { λ r. ⌜ r ≡ unitWords conj ⌝ }
 {
     if conj {
@@ -37,7 +37,7 @@ pub fn unit_of(conj: bool) -> Words
 }
 
 // A join of what was read before and of one child more.
-pub fn join(conj: bool, a: Words, b: Words) -> Words
+fn join(conj: bool, a: Words, b: Words) -> Words
     ensures { λ r. ⌜ r ≡ joinWords conj a b ⌝ }
 {
     if conj {
@@ -66,7 +66,7 @@ pub fn join(conj: bool, a: Words, b: Words) -> Words
 }
 
 // A candidate: the bit of its variable, if it is chosen and its variable is of the block.
-pub fn leaf_of(marks: &[u8; 4096], block: u16, at: Label, v: Variable) -> Words
+fn leaf_of(marks: &[u8; 4096], block: u16, at: Label, v: Variable) -> Words
     requires { ⌜ at .0 < 4096 ⌝ }
     ensures { λ r. ⌜ r ≡ leafWords (maskOf (now (marks .entry)) block (at .0) (v .0)) ⌝ }
 {
@@ -90,7 +90,7 @@ pub fn leaf_of(marks: &[u8; 4096], block: u16, at: Label, v: Variable) -> Words
 }
 
 // The words of the formula at a row, `left` levels deep at most, for the variables of a block.
-pub fn words_of(rows: &[u16], marks: &[u8; 4096], n: u16, at: Label, left: u16, block: u16) -> Words
+fn words_of(rows: &[u16], marks: &[u8; 4096], n: u16, at: Label, left: u16, block: u16) -> Words
     requires { ⌜ Walkable (now rows) n (at .0) ⌝ }
     ensures { λ r. ⌜ r ≡ wordsAt (now (rows .entry)) (now (marks .entry)) block left (at .0) ⌝ }
 {
@@ -119,7 +119,7 @@ pub fn words_of(rows: &[u16], marks: &[u8; 4096], n: u16, at: Label, left: u16, 
 }
 
 // Whether a word has bit b.
-pub fn has_bit(w: u64, b: u16) -> bool
+fn has_bit(w: u64, b: u16) -> bool
     requires { ⌜ b < 64 ⌝ }
     ensures { λ r. ⌜ r ≡ bitAt w b ⌝ }
 {
@@ -127,7 +127,7 @@ pub fn has_bit(w: u64, b: u16) -> bool
 }
 
 // The lowest bit set of the m lowest, or m.
-pub fn lowest_bit(w: u64, m: u16) -> u16
+fn lowest_bit(w: u64, m: u16) -> u16
     requires { ⌜ m ≤ 64 ⌝ }
     ensures { λ r. ⌜ r ≡ first (bitAt w) m ⌝ }
 {

@@ -32,7 +32,7 @@ fn capped(x: u64) -> u32
 }
 
 // A leaf's one key: not empty if the leaf is chosen.
-pub fn leaf_keys(marks: &[u8; 4096], at: Label) -> Distinct
+fn leaf_keys(marks: &[u8; 4096], at: Label) -> Distinct
     requires { ⌜ at .0 < 4096 ⌝ }
     ensures { λ r. ⌜ r ≡ leafKeys (isMarked (now (marks .entry)) (at .0)) ⌝ }
 {
@@ -68,7 +68,7 @@ fn keys_of_both(a: Distinct, b: Distinct) -> Distinct
 }
 
 // The keys of a join of what was read before and of one child more.
-pub fn join(conj: bool, a: Distinct, b: Distinct) -> Distinct
+fn join(conj: bool, a: Distinct, b: Distinct) -> Distinct
     requires { ⌜ (a .more ≤ limit) × (b .more ≤ limit) ⌝ }
     ensures { λ r. ⌜ r ≡ joinKeys conj a b ⌝ }
 {

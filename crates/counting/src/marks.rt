@@ -3,7 +3,7 @@ ghost use mathlib.Core.Path.{_≡_};
 ghost use Prim.Native.Nat.{_<_};
 ghost use mathlib.Core.List.{map};
 ghost use Rattle.paper.specs.Formula.{ℓ};
-ghost use Rattle.counting.specs.Marks.{isMarked, Marked, AllBelow};
+ghost use Rattle.counting.specs.Marks.{isMarked, MarksOf, AllBelow};
 use paper::Label;
 
 // Whether a label is marked.
@@ -18,7 +18,7 @@ pub fn is_marked(marks: &[u8; 4096], at: Label) -> bool
 // The marks of the chosen labels.
 pub fn marks_of(chosen: &[u16]) -> [u8; 4096]
     requires { ⌜ AllBelow 4096 (now chosen) ⌝ }
-    ensures { λ r. ⌜ Marked (map ℓ (now (chosen .entry))) r ⌝ }
+    ensures { λ r. ⌜ MarksOf (map ℓ (now (chosen .entry))) r ⌝ }
 {
     let mut marks = [0u8; 4096];
     let mut k = 0;

@@ -4,3 +4,4 @@ pub mod Texts
 pub mod Lengths
 pub mod Positions
 pub mod Example
+pub mod OneOutcome

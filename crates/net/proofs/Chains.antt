@@ -5,6 +5,7 @@ use native.Mathlib.Omega.{arith}
 use native.Mathlib.Nat.{eq-or-lt-of-le}
 use mathlib.Core.Path.{_≡_, refl, sym, ap, _∙_}
 use mathlib.Core.Bool.{Bool, true, false}
+use mathlib.Core.Logic.{inr}
 use mathlib.Core.List.{List}
 use lib.Dec.{eqb}
 use lib.ListN.{length, getD, take, set, length-set}
@@ -14,13 +15,23 @@ use Rattle.paper.proofs.Bools.{pick}
 use Rattle.table.specs.First.{first}
 use Rattle.table.specs.Rows.{argOf}
 use Rattle.table.proofs.First.{first-found, first-none, first-same}
-use Rattle.net.specs.Net.{guardsFrom, nextsFrom, firstsFrom, netLength, Parents, Guards, Net, firstWith}
+use Rattle.table.proofs.Meets.{lt-or-le}
+use Rattle.net.specs.Net.{guardsFrom, nextsFrom, firstsFrom, netLength, Parents, Guards, Net, Only, ChainWord, firstWith}
 use Rattle.net.proofs.Notes.{parents-kept, guards-kept}
 
 -- a search that passed one number goes on with the rest
 passed-one : (bad : ℕ → Bool) (n : ℕ) → bad 0 ≡ false → first bad (suc n) ≡ suc (first (λ k. bad (suc k)) n)
 unfolding first
 passed-one bad n e = rw e
+
+-- words before those of the variables that are as they were
+as-taken : (old net : List ℕ) (i : ℕ) → i < firstsFrom → take firstsFrom net ≡ take firstsFrom old → getD net i 0 ≡ getD old i 0
+as-taken old net i h same = sym (getD-take firstsFrom net i 0 h) ∙ ap (λ l. getD l i 0) same ∙ getD-take firstsFrom old i 0 h
+
+pub only-before : {old net : List ℕ} (#S : ℕ) → take firstsFrom net ≡ take firstsFrom old → Only (ChainWord #S) old net
+only-before {old} {net} #S same = record {
+  stays = λ i h. pick (lt-or-le i firstsFrom) (λ l. as-taken old net i l same) (λ l. absurd (h (inr l)));
+}
 
 module _ (rows chosen : List ℕ) where
   -- the variable of the k-th chosen label
@@ -77,7 +88,7 @@ module _ (rows chosen : List ℕ) where
     }
       where
         as-before : (i : ℕ) → i < firstsFrom → getD net i 0 ≡ getD old i 0
-        as-before i h = sym (getD-take firstsFrom net i 0 h) ∙ ap (λ l. getD l i 0) same ∙ getD-take firstsFrom old i 0 h
+        as-before i h = as-taken old net i h same
 
     -- one more label is: it has its variable's first from there on as its next, and is its variable's first itself
     module _ (m k v : ℕ) {net : List ℕ} (l : Linked #N m net) (next : m ≡ k + 1) (within : m ≤ length chosen) (small : length chosen ≤ 2047)

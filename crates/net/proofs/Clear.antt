@@ -4,24 +4,39 @@ use Prim.Native.Nat.{ℕ, _+_, _<_, _≤_}
 use native.Mathlib.Omega.{arith}
 use native.Mathlib.Nat.{eq-or-lt-of-le}
 use mathlib.Core.Path.{_≡_, sym, ap, _∙_}
-use mathlib.Core.Bool.{true, false, _&&_}
+use mathlib.Core.Bool.{true, false, cond, _&&_}
 use mathlib.Core.List.{List}
-use lib.Dec.{eqb}
+use lib.Dec.{eqb, ltb}
 use lib.ListN.{getD}
-use borrow.Author.Tests.{eq-eqb, ne-eqb}
+use borrow.Author.Tests.{eq-eqb, ne-eqb, lt-ltb, le-ltb, ltb-true}
 use Rattle.paper.proofs.Bools.{and-left, and-right, both, not-so, or-left, or-right, pick}
 use Rattle.table.specs.Rows.{kindOf, endOf}
+use Rattle.table.proofs.First.{first-found, first-none}
 use Rattle.table.proofs.Meets.{lt-or-le}
 use Rattle.net.specs.Prior.{isUnder, overBoth, together}
-use Rattle.net.specs.Net.{Tree, Parents, Cleared}
+use Rattle.net.specs.Net.{Tree, Parents, Cleared, towards, clearTo}
 use Rattle.net.proofs.Last.{last-is}
 use Rattle.net.proofs.Climb.{under, under-from, under-to, under-not, Parent, parent-by}
 
-pub cleared-same : (rows : List ℕ) (i j : ℕ) → i ≡ j → Cleared rows i j i
+-- where two candidates share a branch, or not
+joined-to : (rows : List ℕ) (i j : ℕ) → together rows i j ≡ true → i ≡ clearTo rows i j
+unfolding clearTo
+joined-to rows i j e = rw e
+
+apart-to : (rows : List ℕ) (i j top below : ℕ) → together rows i j ≡ false → overBoth rows i j ≡ top → towards rows top j ≡ below
+    → clearTo rows i j ≡ cond (ltb i below) below (endOf rows top)
+unfolding clearTo
+apart-to rows i j top below e o t = rw (e, o, t)
+
+same-together : (rows : List ℕ) (i j : ℕ) → i ≡ j → together rows i j ≡ true
 unfolding together
+same-together rows i j e = or-left (eqb i j) _ (eq-eqb i j e)
+
+pub cleared-same : (rows : List ℕ) (i j : ℕ) → i ≡ j → Cleared rows i j i
 cleared-same rows i j e = record {
+  exactly = joined-to rows i j (same-together rows i j e);
   from = omega arith;
-  shared = λ _. or-left (eqb i j) _ (eq-eqb i j e);
+  shared = λ _. same-together rows i j e;
   apart = λ x a b. absurd (omega arith);
 }
 
@@ -84,6 +99,23 @@ module _ {rows : List ℕ} {#N i j : ℕ} (q : Pair rows #N i j) where
     pub top-below : top < #N
     top-below = let l = top-from in let h = q .there in omega arith
 
+    -- row below is the first past top that is over j
+    on-the-way : towards rows top j ≡ below
+    unfolding towards
+    on-the-way = pick (eq-or-lt-of-le (u .from)) (λ e. first-none _ j (λ k h. passed k (omega arith)) ∙ sym e)
+        (λ h. first-found _ j below passed h
+        (both _ _ (lt-ltb top below (u .up .reached .below)) (under rows below j (u .from) (u .to))))
+      where
+        passed : (b : ℕ) → b < below → (ltb top b && isUnder rows b j) ≡ false
+        passed b h =
+            not-so _
+            (λ e.
+            let l = ltb-true top b (and-left (ltb top b) _ e) in
+            let o = under-to rows b j (and-right (ltb top b) _ e) in
+            let z = u .up .reached .passed b l h in
+            let f = u .from in
+            omega arith)
+
     -- the last row over j and a row beside the way
     last-over : (x : ℕ) → Beside rows below top x → overBoth rows x j ≡ top
     unfolding overBoth
@@ -135,17 +167,25 @@ module _ {rows : List ℕ} {#N i j : ℕ} (q : Pair rows #N i j) where
               let w = ap (endOf rows) e in
               omega arith
 
+      here : Beside rows below top i
+      here = beside i (omega arith) (under-to rows top i over) (u .misses)
+
       -- top is a conjunction
       pub cleared-joined : kindOf rows top ≡ 3 → Cleared rows i j i
       cleared-joined k = record {
+        exactly = joined-to rows i j (shares i here k);
         from = omega arith;
-        shared = λ _. shares i (beside i (omega arith) (under-to rows top i over) (u .misses)) k;
+        shared = λ _. shares i here k;
         apart = λ x a b. absurd (omega arith);
       }
 
       -- it is none: nothing from i up to below shares a branch with j, or nothing from i up to the end of top
+      none-to : (kindOf rows top ≡ 3 → ⊥) → clearTo rows i j ≡ cond (ltb i below) below (endOf rows top)
+      none-to k = apart-to rows i j top below (shares-none i here k) (last-over i here) on-the-way
+
       pub cleared-before : (kindOf rows top ≡ 3 → ⊥) → i < below → Cleared rows i j below
       cleared-before k l = record {
+        exactly = sym (none-to k ∙ rw (lt-ltb i below l));
         from = omega arith;
         shared = λ e. absurd (omega arith);
         apart = λ x a b. shares-none x (beside x a (let o = u .up .over in omega arith) (λ c. absurd (omega arith))) k;
@@ -153,6 +193,7 @@ module _ {rows : List ℕ} {#N i j : ℕ} (q : Pair rows #N i j) where
 
       pub cleared-after : {end : ℕ} → (kindOf rows top ≡ 3 → ⊥) → below ≤ i → end ≡ endOf rows top → Cleared rows i j end
       cleared-after k l e = let o = under-to rows top i over in record {
+        exactly = e ∙ sym (none-to k ∙ rw (le-ltb i below l));
         from = omega arith;
         shared = λ s. absurd (omega arith);
         apart = λ x a b. shares-none x (beside x a (omega arith) (λ _. let m = u .misses l in omega arith)) k;

@@ -11,3 +11,4 @@ pub mod Sharing
 pub mod Freezing
 pub mod PriorIsBefore
 pub mod Numbered
+pub mod OneOutcome

@@ -2,13 +2,13 @@
 -- the next word of a part adds to it.
 use Prim.Native.Nat.{ℕ, _+_, _<_, _≤_}
 use native.Mathlib.Omega.{arith}
-use mathlib.Core.Path.{_≡_, _∙_}
+use mathlib.Core.Path.{_≡_, refl, subst⁻¹, _∙_}
 use mathlib.Core.List.{List}
 use lib.ListN.{length, getD, set, length-set}
 use lib.Seq.{getD-set-same, getD-set-other}
 use borrow.Author.Count.{below-more}
 use Rattle.net.specs.Prior.{parentOf, guardOf}
-use Rattle.net.specs.Net.{guardsFrom, nextsFrom, netLength, Parents, Guards}
+use Rattle.net.specs.Net.{guardsFrom, nextsFrom, netLength, Parents, Guards, Only}
 
 module _ (rows : List ℕ) {#N : ℕ} {net : List ℕ} where
   module _ (few : #N ≤ 4096) (at word : ℕ) where
@@ -54,3 +54,22 @@ unfolding guardOf
 guards-first rows net size = record {
   guards = λ i h. let e : i ≡ 0 = omega arith in rw e (getD-set-same net guardsFrom 0 0 (omega arith));
 }
+
+-- row 0 has none, whatever the others have
+pub unguarded-kept : (net : List ℕ) (i word : ℕ) → 0 < i → getD net guardsFrom 0 ≡ 0 → getD (set net (guardsFrom + i) word) guardsFrom 0 ≡ 0
+unguarded-kept net i word h e = getD-set-other net (guardsFrom + i) guardsFrom word 0 (λ q. omega arith) ∙ e
+
+-- a given word may be written: the others stay
+pub only-none : {Given : ℕ → Type 0} {net : List ℕ} → Only Given net net
+only-none = record { stays = λ i h. refl }
+
+pub only-more : {Given : ℕ → Type 0} {old net : List ℕ} {at : ℕ} (word : ℕ) → Only Given old net → Given at → Only Given old (set net at word)
+only-more {Given} {old} {net} {at} word only given = record {
+  stays = λ i h. getD-set-other net at i word 0 (λ e. h (subst⁻¹ Given e given)) ∙ only .stays i h;
+}
+
+pub only-then : {Given : ℕ → Type 0} {old mid net : List ℕ} → Only Given old mid → Only Given mid net → Only Given old net
+only-then a b = record { stays = λ i h. b .stays i h ∙ a .stays i h }
+
+pub only-wider : {Given Wider : ℕ → Type 0} {old net : List ℕ} → Only Given old net → ((i : ℕ) → Given i → Wider i) → Only Wider old net
+only-wider a wider = record { stays = λ i h. a .stays i (λ g. h (wider i g)) }

@@ -3,14 +3,15 @@
 -- chosen labels the number of the next one with its variable, and for each of 1,024 variables the number of its first
 -- chosen label (the number of chosen labels for none).
 use Prim.Native.Nat.{ℕ, _+_, _-_, _<_, _≤_}
-use mathlib.Core.Bool.{true, false}
+use mathlib.Core.Bool.{true, false, cond, _&&_}
+use mathlib.Core.Logic.{_⊎_}
 use mathlib.Core.Path.{_≡_}
 use mathlib.Core.List.{List}
-use lib.Dec.{eqb}
+use lib.Dec.{eqb, ltb}
 use lib.ListN.{length, getD}
 use Rattle.table.specs.First.{first}
 use Rattle.table.specs.Rows.{kindOf, argOf, endOf, Nested}
-use Rattle.net.specs.Prior.{parentOf, guardOf, together}
+use Rattle.net.specs.Prior.{isUnder, parentOf, guardOf, overBoth, together}
 
 -- where each part begins, and the whole length
 abbrev pub guardsFrom : ℕ
@@ -63,9 +64,42 @@ module _ (rows chosen : List ℕ) where
     pub nexts : (k : ℕ) → k < length chosen → getD net (nextsFrom + k) 0 ≡ firstWith (argOf rows (getD chosen k 0)) (k + 1)
     pub firsts : (v : ℕ) → v < 1024 → getD net (firstsFrom + v) 0 ≡ firstWith v 0
 
+-- the words of each part that a net of so many rows and chosen labels gives; those of the variables it gives all
+abbrev pub ParentWord : ℕ → ℕ → Type 0
+ParentWord #N i = (0 < i) × (i < #N)
+
+abbrev pub GuardWord : ℕ → ℕ → Type 0
+GuardWord #N i = (guardsFrom ≤ i) × (i ≤ guardsFrom + (#N - 1))
+
+abbrev pub ChainWord : ℕ → ℕ → Type 0
+ChainWord #S i = ((nextsFrom ≤ i) × (i < nextsFrom + #S)) ⊎ (firstsFrom ≤ i)
+
+-- a word that is not given is as it was
+pub record Only (Given : ℕ → Type 0) (old net : List ℕ) : Type 0 where
+  pub stays : (i : ℕ) → (Given i → ⊥) → getD net i 0 ≡ getD old i 0
+
+-- The net afterwards, and every word that it does not give as it was before. Row 0 has no guard.
+pub record Noted (rows chosen : List ℕ) (#N : ℕ) (old net : List ℕ) : Type 0 where
+  pub noted : Net rows chosen #N net
+  pub unguarded : getD net guardsFrom 0 ≡ 0
+  pub others : Only (λ i. ParentWord #N i ⊎ (GuardWord #N i ⊎ ChainWord (length chosen) i)) old net
+
+module _ (rows : List ℕ) where
+  -- the first row past row a whose subtree holds row j
+  unfoldable pub towards : ℕ → ℕ → ℕ
+  towards a j = first (λ b. ltb a b && isUnder rows b j) j
+
+  -- i itself where the candidates in rows i and j share a branch; else, of the last row over both, the child that holds j where
+  -- that comes after i, and the end where it does not
+  unfoldable pub clearTo : ℕ → ℕ → ℕ
+  clearTo i j =
+      cond (together rows i j) i
+      (cond (ltb i (towards (overBoth rows i j) j)) (towards (overBoth rows i j) j) (endOf rows (overBoth rows i j)))
+
 -- what is known of labels from i on, for the candidate in row j: r is i where they share a branch; else no label from i on
 -- below r shares one with j
 pub record Cleared (rows : List ℕ) (i j r : ℕ) : Type 0 where
+  pub exactly : r ≡ clearTo rows i j
   pub from : i ≤ r
   pub shared : r ≡ i → together rows i j ≡ true
   pub apart : (x : ℕ) → i ≤ x → x < r → together rows x j ≡ false

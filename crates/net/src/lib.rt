@@ -5,7 +5,7 @@ ghost use lib.ListN.{length, getD, take};
 ghost use Rattle.paper.specs.Formula.{ℓ};
 ghost use Rattle.table.specs.Rows.{kindOf};
 ghost use Rattle.net.specs.Prior.{isUnder, parentOf, guardOf};
-ghost use Rattle.net.specs.Net.{Tree, Chosen, Parents, Guards, Net, Cleared, guardsFrom, nextsFrom, firstsFrom, netLength};
+ghost use Rattle.net.specs.Net.{Tree, Chosen, Parents, Guards, Net, Noted, Cleared, Only, ParentWord, GuardWord, ChainWord, guardsFrom, nextsFrom, firstsFrom, netLength};
 use paper::Label;
 use paper::Variable;
 use table::rows::arg_of;
@@ -14,7 +14,7 @@ use table::rows::kind_of;
 use table::rows::wide;
 
 // The row over a row.
-pub fn parent_of(net: &[u16; 11264], at: Label) -> Label
+fn parent_of(net: &[u16; 11264], at: Label) -> Label
     requires { ⌜ at .0 < 4096 ⌝ }
     ensures { λ r. ⌜ r ≡ ℓ (getD (now (net .entry)) (at .0) 0) ⌝ }
 {
@@ -75,7 +75,7 @@ fn climbed(rows: &[u16], net: &[u16; 11264], n: u16, at: Label) -> Label
 // Notes the row over each row.
 fn note_parents(rows: &[u16], n: u16, net: &mut [u16; 11264])
     requires { ⌜ Tree (now rows) n × (length (now net) ≡ netLength) ⌝ }
-    ensures { λ _. ⌜ Parents (now (rows .entry)) n (now (net .exit)) ⌝ }
+    ensures { λ _. ⌜ Parents (now (rows .entry)) n (now (net .exit)) × Only (ParentWord n) (now (net .entry)) (now (net .exit)) ⌝ }
 {
     let mut i: u16 = 1;
     while i < n {
@@ -103,7 +103,8 @@ fn guarded_by(rows: &[u16], net: &[u16; 11264], n: u16, at: Label) -> Label
 // Notes the star of the innermost guard around each row.
 fn note_guards(rows: &[u16], n: u16, net: &mut [u16; 11264])
     requires { ⌜ Tree (now rows) n × Parents (now rows) n (now net) ⌝ }
-    ensures { λ _. ⌜ Parents (now (rows .entry)) n (now (net .exit)) × Guards (now (rows .entry)) n (now (net .exit)) ⌝ }
+    ensures { λ _. ⌜ Parents (now (rows .entry)) n (now (net .exit)) × Guards (now (rows .entry)) n (now (net .exit))
+        × (getD (now (net .exit)) guardsFrom 0 ≡ 0) × Only (GuardWord n) (now (net .entry)) (now (net .exit)) ⌝ }
 {
     net[4096] = 0;
     let mut i: u16 = 1;
@@ -130,7 +131,8 @@ fn note_none(none: u16, net: &mut [u16; 11264])
 // Notes for each chosen label the next one of its variable, and for each variable its first, from the last label down.
 fn note_chains(rows: &[u16], chosen: &[u16], n: u16, net: &mut [u16; 11264])
     requires { ⌜ Chosen (now rows) (now chosen) n × Parents (now rows) n (now net) × Guards (now rows) n (now net) ⌝ }
-    ensures { λ _. ⌜ Net (now (rows .entry)) (now (chosen .entry)) n (now (net .exit)) ⌝ }
+    ensures { λ _. ⌜ Net (now (rows .entry)) (now (chosen .entry)) n (now (net .exit))
+        × Only (ChainWord (length (now (chosen .entry)))) (now (net .entry)) (now (net .exit)) ⌝ }
 {
     note_none(chosen.len() as u16, net);
     let mut k = chosen.len();
@@ -145,7 +147,7 @@ fn note_chains(rows: &[u16], chosen: &[u16], n: u16, net: &mut [u16; 11264])
 // The net of rows and chosen labels.
 pub fn note_net(rows: &[u16], chosen: &[u16], n: u16, net: &mut [u16; 11264])
     requires { ⌜ Chosen (now rows) (now chosen) n × (length (now net) ≡ netLength) ⌝ }
-    ensures { λ _. ⌜ Net (now (rows .entry)) (now (chosen .entry)) n (now (net .exit)) ⌝ }
+    ensures { λ _. ⌜ Noted (now (rows .entry)) (now (chosen .entry)) n (now (net .entry)) (now (net .exit)) ⌝ }
 {
     note_parents(rows, n, net);
     note_guards(rows, n, net);

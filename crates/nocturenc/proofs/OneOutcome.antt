@@ -1,62 +1,54 @@
 -- For each public function, any two outcomes that its promise allows are equal: the answer, and every lent word or byte afterwards.
 use Prim.Native.Nat.{ℕ}
-use mathlib.Core.Path.{_≡_, sym, _∙_}
+use mathlib.Core.Path.{_≡_}
 use mathlib.Core.List.{List}
 use lib.ListN.{length}
+use Rattle.paper.specs.Outcome.{OneAnswer, OneOutcome}
+use Rattle.paper.proofs.Outcome.{by-equation}
 use Rattle.strategy.specs.declared.Accepted.{Accepted}
-use Rattle.nocturenc.specs.declared.Answer.{Answer}
-use Rattle.nocturenc.specs.declared.Filled.{Filled}
-use Rattle.nocturenc.specs.Requests.{judgeOf, Outcome, transitionOutcome, assignmentsOutcome, orderOf, transitionOf, assignmentsOf, Fills}
-use Rattle.nocturenc.specs.Packed.{packedAnswer, FillsPacked}
+use Rattle.nocturenc.specs.Requests.{judgeOf, Outcome, filledOf, after, transitionOutcome, assignmentsOutcome, orderOf, transitionOf, assignmentsOf, Fills}
+use Rattle.nocturenc.specs.Packed.{packedAnswer, packedFilled, FillsPacked}
 
-same-by : {A : Type 0} {r r′ s : A} → r ≡ s → r′ ≡ s → r ≡ r′
-same-by p q = p ∙ sym q
+module _ (o : Outcome) (lent : List ℕ) where
+  one-filling : OneOutcome (λ left r. Fills o lent left r)
+  one-filling left other r s p q =
+      (by-equation (filledOf o) r s (p .answered) (q .answered), by-equation (after o lent) left other (p .left-so) (q .left-so))
 
-module _ (o : Outcome) {lent left left′ : List ℕ} where
-  one-filling : {r r′ : Filled} → Fills o lent left r → Fills o lent left′ r′ → (r ≡ r′) × (left ≡ left′)
-  one-filling f g = (same-by (f .answered) (g .answered), same-by (f .left-so) (g .left-so))
-
-  one-packed : {r r′ : ℕ} → FillsPacked o lent left r → FillsPacked o lent left′ r′ → (r ≡ r′) × (left ≡ left′)
-  one-packed f g = (same-by (f .answered) (g .answered), same-by (f .left-so) (g .left-so))
+  one-packed : OneOutcome (λ left r. FillsPacked o lent left r)
+  one-packed left other r s p q =
+      (by-equation (packedFilled (filledOf o)) r s (p .answered) (q .answered), by-equation (after o lent) left other (p .left-so) (q .left-so))
 
 module _ (words : List ℕ) where
-  pub judge : {r r′ : Answer} → r ≡ judgeOf words → r′ ≡ judgeOf words → r ≡ r′
-  judge = same-by
+  pub judge : OneAnswer (λ r. r ≡ judgeOf words)
+  judge = by-equation (judgeOf words)
 
-  pub nocturenc-judge : {r r′ : ℕ} → r ≡ packedAnswer (judgeOf words) → r′ ≡ packedAnswer (judgeOf words) → r ≡ r′
-  nocturenc-judge = same-by
+  pub nocturenc-judge : OneAnswer (λ r. r ≡ packedAnswer (judgeOf words))
+  nocturenc-judge = by-equation (packedAnswer (judgeOf words))
 
-  module _ (lent : List ℕ) {left left′ : List ℕ} where
-    pub order : {r r′ : Filled} → Fills (orderOf words (length lent)) lent left r → Fills (orderOf words (length lent)) lent left′ r′ → (r ≡ r′) × (left ≡ left′)
-    order = one-filling (orderOf words (length lent))
+  module _ (lent : List ℕ) where
+    pub order : OneOutcome (λ left r. Fills (orderOf words (length lent)) lent left r)
+    order = one-filling (orderOf words (length lent)) lent
 
-    pub nocturenc-order : {r r′ : ℕ} → FillsPacked (orderOf words (length lent)) lent left r → FillsPacked (orderOf words (length lent)) lent left′ r′
-        → (r ≡ r′) × (left ≡ left′)
-    nocturenc-order = one-packed (orderOf words (length lent))
+    pub nocturenc-order : OneOutcome (λ left r. FillsPacked (orderOf words (length lent)) lent left r)
+    nocturenc-order = one-packed (orderOf words (length lent)) lent
 
     module _ (k : ℕ) where
-      pub transition : {r r′ : Filled} → Fills (transitionOf words k (length lent)) lent left r → Fills (transitionOf words k (length lent)) lent left′ r′
-          → (r ≡ r′) × (left ≡ left′)
-      transition = one-filling (transitionOf words k (length lent))
+      pub transition : OneOutcome (λ left r. Fills (transitionOf words k (length lent)) lent left r)
+      transition = one-filling (transitionOf words k (length lent)) lent
 
-      pub nocturenc-transition : {r r′ : ℕ} → FillsPacked (transitionOf words k (length lent)) lent left r
-          → FillsPacked (transitionOf words k (length lent)) lent left′ r′ → (r ≡ r′) × (left ≡ left′)
-      nocturenc-transition = one-packed (transitionOf words k (length lent))
+      pub nocturenc-transition : OneOutcome (λ left r. FillsPacked (transitionOf words k (length lent)) lent left r)
+      nocturenc-transition = one-packed (transitionOf words k (length lent)) lent
 
-      pub assignments : {r r′ : Filled} → Fills (assignmentsOf words k (length lent)) lent left r → Fills (assignmentsOf words k (length lent)) lent left′ r′
-          → (r ≡ r′) × (left ≡ left′)
-      assignments = one-filling (assignmentsOf words k (length lent))
+      pub assignments : OneOutcome (λ left r. Fills (assignmentsOf words k (length lent)) lent left r)
+      assignments = one-filling (assignmentsOf words k (length lent)) lent
 
-      pub nocturenc-assignments : {r r′ : ℕ} → FillsPacked (assignmentsOf words k (length lent)) lent left r
-          → FillsPacked (assignmentsOf words k (length lent)) lent left′ r′ → (r ≡ r′) × (left ≡ left′)
-      nocturenc-assignments = one-packed (assignmentsOf words k (length lent))
+      pub nocturenc-assignments : OneOutcome (λ left r. FillsPacked (assignmentsOf words k (length lent)) lent left r)
+      nocturenc-assignments = one-packed (assignmentsOf words k (length lent)) lent
 
       -- for a caller that has judged
       module _ (a : Accepted) where
-        pub transition-of : {r r′ : Filled} → Fills (transitionOutcome words k (length lent) (a .layout) (a .transitions)) lent left r
-            → Fills (transitionOutcome words k (length lent) (a .layout) (a .transitions)) lent left′ r′ → (r ≡ r′) × (left ≡ left′)
-        transition-of = one-filling (transitionOutcome words k (length lent) (a .layout) (a .transitions))
+        pub transition-of : OneOutcome (λ left r. Fills (transitionOutcome words k (length lent) (a .layout) (a .transitions)) lent left r)
+        transition-of = one-filling (transitionOutcome words k (length lent) (a .layout) (a .transitions)) lent
 
-        pub assignments-of : {r r′ : Filled} → Fills (assignmentsOutcome words k (length lent) (a .layout) (a .transitions)) lent left r
-            → Fills (assignmentsOutcome words k (length lent) (a .layout) (a .transitions)) lent left′ r′ → (r ≡ r′) × (left ≡ left′)
-        assignments-of = one-filling (assignmentsOutcome words k (length lent) (a .layout) (a .transitions))
+        pub assignments-of : OneOutcome (λ left r. Fills (assignmentsOutcome words k (length lent) (a .layout) (a .transitions)) lent left r)
+        assignments-of = one-filling (assignmentsOutcome words k (length lent) (a .layout) (a .transitions)) lent

@@ -12,3 +12,4 @@ pub mod Onward
 pub mod Seeking
 pub mod Looking
 pub mod Itself
+pub mod OneOutcome

@@ -82,7 +82,7 @@ fn onward(rows: &[u16], reads: &[u16], chosen: &[u16], net: &[u16; 11264], n: u1
 }
 
 // Whether i is new, or on the path below position b.
-pub fn is_outside(mark: &[u16; 2048], b: usize, i: usize) -> bool
+fn is_outside(mark: &[u16; 2048], b: usize, i: usize) -> bool
     requires { ⌜ (i < 2048) × (b < 2048) ⌝ }
     ensures { λ r. ⌜ r ≡ outside (now (mark .entry)) b i ⌝ }
 {

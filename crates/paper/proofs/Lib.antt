@@ -1,5 +1,6 @@
 pub mod Bools
 pub mod Lists
+pub mod Outcome
 pub mod Labels
 pub mod Distinct
 pub mod Variables

@@ -1,4 +1,5 @@
 pub mod Lists
+pub mod Outcome
 pub mod Formula
 pub mod Branch
 pub mod BoolForm

@@ -233,8 +233,3 @@ pub judged-lent : {words lent left : List ℕ} {l : Layout} {r : Judged} (e : ch
     → JudgedParts (lentRows words l e) (lentReads words l e) (lentChosen words l e) l lent left r → JudgedInto words lent left r
 judged-lent {words} {lent} {left} {l} {r} e j =
     judged-whole e (of-lent words l e (λ rows reads chosen. JudgedParts rows reads chosen l lent left r) j)
-
--- the promise leaves one outcome
-pub one-outcome : {words lent left : List ℕ} {r : Judged} {other : List ℕ} {s : Judged} → JudgedInto words lent left r → JudgedInto words lent other s
-    → (r ≡ s) × (left ≡ other)
-one-outcome p q = (p .answered ∙ sym (q .answered), p .left-so ∙ sym (q .left-so))

@@ -4,3 +4,4 @@ pub mod Placed
 pub mod Answers
 pub mod Example
 pub mod Exactly
+pub mod OneOutcome

@@ -7,7 +7,7 @@ use table::Layout;
 use table::Refusal;
 use table::check;
 
-pub mod checks; // 10 to 14, one after another
+mod checks; // 10 to 14, one after another
 
 // What is known of an accepted table: its counts and positions, and the number of its transitions.
 pub struct Accepted {

@@ -6,5 +6,5 @@ pub mod Taking
 pub mod Fronts
 pub mod Words
 pub mod Numbered
-pub mod Outcomes
+pub mod OneOutcome
 pub mod Example

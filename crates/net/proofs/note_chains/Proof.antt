@@ -2,14 +2,17 @@
 use Prim.Native.Nat.{_-_, _<_, _≤_}
 use native.Mathlib.Omega.{arith}
 use mathlib.Core.Path.{_≡_, _∙_}
+use mathlib.Core.Logic.{inl, inr}
 use lib.ListN.{length}
 use borrow.Author.Needs.{needs}
-use Rattle.net.proofs.Chains.{variableAt, Linked, linked-none, linked-more, linked-all}
+use Rattle.net.specs.Net.{Only, ChainWord}
+use Rattle.net.proofs.Notes.{only-none, only-more, only-then}
+use Rattle.net.proofs.Chains.{variableAt, Linked, linked-none, linked-more, linked-all, only-before}
 use Rattle.net.proofs.note_chains.Statement.{statement}
 use Rattle.net.proofs.note_chains.Tie as tie
 
 abbrev Inv-loop : tie.InvT-loop
-Inv-loop rows chosen n net₀ k₀ net k = (k ≤ length chosen) × Linked rows chosen n k net
+Inv-loop rows chosen n net₀ k₀ net k = (k ≤ length chosen) × Linked rows chosen n k net × Only (ChainWord (length chosen)) net₀ net
 
 abbrev μ-loop : tie.MeasureT-loop
 μ-loop rows chosen n net₀ k₀ net k = k
@@ -24,7 +27,7 @@ loop-holds : tie.Need-loop-holds Inv-loop μ-loop
 loop-holds c =
     let p = c .before .before .before .before .pre in
     let e = c .note-none .ensures in
-    (omega arith, linked-none _ _ (p .0 .tree .nested .few) (p .1) (p .2) (e .0) (e .1) (e .2))
+    (omega arith, linked-none _ _ (p .0 .tree .nested .few) (p .1) (p .2) (e .0) (e .1) (e .2), only-none)
 
 sub-k : tie.Need-sub-k Inv-loop μ-loop
 sub-k c = search needs
@@ -92,11 +95,14 @@ loop-less c = search needs
 loop-again : tie.Need-loop-again Inv-loop μ-loop
 loop-again c =
     let p = c .before .before .before .before .before .before .before .before .before .before .pre in
-    let l = c .before .before .before .before .before .loop .inv in
-    (omega arith, linked-more _ _ (p .0 .tree .nested .few) _ _ _ (l .1) (omega arith) (l .0) (p .0 .few) (of (c .before)) (low (c .before)))
+    let l = c .before .before .before .before .before .loop .inv in (
+      omega arith,
+      linked-more _ _ (p .0 .tree .nested .few) _ _ _ (l .1) (omega arith) (l .0) (p .0 .few) (of (c .before)) (low (c .before)),
+      only-more _ (only-more _ (l .2) (inl (omega arith, omega arith))) (inr (omega arith)),
+    )
 
 returns : tie.Need-returns Inv-loop μ-loop
-returns c = linked-all _ _ (c .before .loop .inv .1) (omega arith)
+returns c = let inv = c .before .loop .inv in (linked-all _ _ (inv .1) (omega arith), only-then (only-before _ (c .before .before .note-none .ensures .1)) (inv .2))
 
 pub note-chains-spec : {M : Type 1} → statement M
 note-chains-spec =

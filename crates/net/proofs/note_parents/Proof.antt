@@ -3,19 +3,19 @@ use Prim.Native.Nat.{_-_, _<_}
 use native.Mathlib.Omega.{arith}
 use borrow.Author.Needs.{needs}
 use Rattle.table.proofs.Rules.{number-of}
-use Rattle.net.specs.Net.{Parents}
-use Rattle.net.proofs.Notes.{parents-none, parents-more, parents-fewer}
+use Rattle.net.specs.Net.{Parents, Only, ParentWord}
+use Rattle.net.proofs.Notes.{parents-none, parents-more, parents-fewer, only-none, only-more}
 use Rattle.net.proofs.note_parents.Statement.{statement}
 use Rattle.net.proofs.note_parents.Tie as tie
 
 abbrev Inv-loop : tie.InvT-loop
-Inv-loop rows n net₀ i₀ net i = (0 < i) × Parents rows i net
+Inv-loop rows n net₀ i₀ net i = (0 < i) × Parents rows i net × Only (ParentWord n) net₀ net
 
 abbrev μ-loop : tie.MeasureT-loop
 μ-loop rows n net₀ i₀ net i = n - i
 
 loop-holds : tie.Need-loop-holds Inv-loop μ-loop
-loop-holds c = (omega arith, parents-none _ _ (c .before .pre .1))
+loop-holds c = (omega arith, parents-none _ _ (c .before .pre .1), only-none)
 
 climbed-requires : tie.Need-climbed-requires Inv-loop μ-loop
 climbed-requires c κs = (c .before .before .before .before .pre .0, c .before .before .loop .inv .0, omega arith, c .before .before .loop .inv .1 .parents)
@@ -36,10 +36,15 @@ loop-less : tie.Need-loop-less Inv-loop μ-loop
 loop-less c = search needs
 
 loop-again : tie.Need-loop-again Inv-loop μ-loop
-loop-again c = (omega arith, parents-more _ _ (omega arith) (number-of (c .climbed .ensures)) (c .before .before .before .loop .inv .1))
+loop-again c =
+    let inv = c .before .before .before .loop .inv in (
+      omega arith,
+      parents-more _ _ (omega arith) (number-of (c .climbed .ensures)) (inv .1),
+      only-more _ (inv .2) (inv .0, omega arith),
+    )
 
 returns : tie.Need-returns Inv-loop μ-loop
-returns c = parents-fewer _ (c .before .loop .inv .1) (omega arith)
+returns c = let inv = c .before .loop .inv in (parents-fewer _ (inv .1) (omega arith), inv .2)
 
 pub note-parents-spec : {M : Type 1} → statement M
 note-parents-spec =

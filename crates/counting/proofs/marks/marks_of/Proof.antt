@@ -2,22 +2,22 @@
 use Prim.Native.Nat.{_≤_, _-_}
 use native.Mathlib.Omega.{arith}
 use mathlib.Core.List.{map}
-use lib.ListN.{length, take}
+use lib.ListN.{length, take, getD}
 use lib.Seq.{take-all}
 use Rattle.paper.specs.Formula.{ℓ}
-use Rattle.counting.specs.Marks.{Marked}
-use Rattle.counting.proofs.Marking.{marked-none, marked-more}
+use Rattle.counting.specs.Marks.{MarksOf}
+use Rattle.counting.proofs.Marking.{marked-none, marked-more, bits-none, bits-more}
 use Rattle.counting.proofs.marks.marks_of.Statement.{statement}
 use Rattle.counting.proofs.marks.marks_of.Tie as tie
 
 abbrev Inv-loop : tie.InvT-loop
-Inv-loop chosen marks₀ k₀ marks k = (k ≤ length chosen) × Marked (map ℓ (take k chosen)) marks
+Inv-loop chosen marks₀ k₀ marks k = (k ≤ length chosen) × MarksOf (map ℓ (take k chosen)) marks
 
 abbrev μ-loop : tie.MeasureT-loop
 μ-loop chosen marks₀ k₀ marks k = length chosen - k
 
 loop-holds : tie.Need-loop-holds Inv-loop μ-loop
-loop-holds c = (omega arith, marked-none)
+loop-holds c = (omega arith, record { marked = marked-none; bits = bits-none })
 
 mul-i : tie.Need-mul-i Inv-loop μ-loop
 mul-i c = omega arith
@@ -40,7 +40,10 @@ loop-less c = omega arith
 loop-again : tie.Need-loop-again Inv-loop μ-loop
 loop-again c =
     let k = c .before .before .loop .k in
-    (omega arith, marked-more _ k (c .before .before .loop .inv .1) (omega arith) (c .before .before .before .pre k (omega arith)))
+    let m = c .before .before .loop .inv .1 in (
+      omega arith,
+      record { marked = marked-more _ k (m .marked) (omega arith) (c .before .before .before .pre k (omega arith)); bits = bits-more (c .before .before .loop .marks) (getD (c .before .before .before .args .chosen .now) k 0) (m .bits) },
+    )
 
 returns : tie.Need-returns Inv-loop μ-loop
 returns c = rw (take-all (c .before .loop .k) (c .before .before .args .chosen .now) (omega arith)) at (c .before .loop .inv .1)

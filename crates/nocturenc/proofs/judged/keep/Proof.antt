@@ -36,7 +36,7 @@ cast-mark-kept : tie.Need-cast-mark-kept
 cast-mark-kept c = let r = rows-fit _ _ (c .before .before .before .before .before .before .before .pre .accepted) in search needs
 
 mark-kept-requires : tie.Need-mark-kept-requires
-mark-kept-requires c κs = keepable _ _ (c .before .before .before .before .before .before .before .before .pre .accepted) _ (c .before .before .before .before .before .before .before .before .pre .there) (c .before .before .before .marks-of .ensures) (c .before .before .before .before .before .before .before .before .pre .room)
+mark-kept-requires c κs = keepable _ _ (c .before .before .before .before .before .before .before .before .pre .accepted) _ (c .before .before .before .before .before .before .before .before .pre .there) (c .before .before .before .marks-of .ensures .marked) (c .before .before .before .before .before .before .before .before .pre .room)
 
 mul-count-kept : tie.Need-mul-count-kept
 mul-count-kept c = let r = parts-reached _ _ (c .before .before .before .before .before .before .before .before .before .before .before .pre .accepted) in omega arith
@@ -53,17 +53,17 @@ part-count-kept-end c = search needs
 slice-reshare-prefix-count-kept : tie.Need-slice-reshare-prefix-count-kept
 slice-reshare-prefix-count-kept c =
     let e = c .before .before .before .before .before .before .before .before .before .before .before .before .pre in
-    front-there _ _ (e .accepted) _ (e .there) _ _ (bytes-left _ _ (e .accepted) _ (e .there) (c .before .before .before .before .before .before .before .marks-of .ensures) (c .before .before .before .mark-kept .ensures)) .0
+    front-there _ _ (e .accepted) _ (e .there) _ _ (bytes-left _ _ (e .accepted) _ (e .there) (c .before .before .before .before .before .before .before .marks-of .ensures .marked) (c .before .before .before .mark-kept .ensures)) .0
 
 slice-aggregate-count-kept : tie.Need-slice-aggregate-count-kept
 slice-aggregate-count-kept c =
     let e = c .before .before .before .before .before .before .before .before .before .before .before .before .before .pre in
-    front-length _ _ (e .accepted) _ (e .there) _ _ (bytes-left _ _ (e .accepted) _ (e .there) (c .before .before .before .before .before .before .before .before .marks-of .ensures) (c .before .before .before .before .mark-kept .ensures))
+    front-length _ _ (e .accepted) _ (e .there) _ _ (bytes-left _ _ (e .accepted) _ (e .there) (c .before .before .before .before .before .before .before .before .marks-of .ensures .marked) (c .before .before .before .before .mark-kept .ensures))
 
 count-kept-requires : tie.Need-count-kept-requires
 count-kept-requires c κs =
     let e = c .before .before .before .before .before .before .before .before .before .before .before .before .before .pre in
-    let n = front-length _ _ (e .accepted) _ (e .there) _ _ (bytes-left _ _ (e .accepted) _ (e .there) (c .before .before .before .before .before .before .before .before .marks-of .ensures) (c .before .before .before .before .mark-kept .ensures)) in
+    let n = front-length _ _ (e .accepted) _ (e .there) _ _ (bytes-left _ _ (e .accepted) _ (e .there) (c .before .before .before .before .before .before .before .before .marks-of .ensures .marked) (c .before .before .before .before .mark-kept .ensures)) in
     lent-below _ _ (e .accepted) _ (omega arith)
 
 same-length : tie.Need-same-length
@@ -71,7 +71,7 @@ same-length c = search needs
 
 returns : tie.Need-returns
 returns c =
-    let e = c .before .before .before .before .before .before .before .before .before .before .before .before .before .before .pre in bytes-kept _ _ (e .accepted) _ (e .there) (c .before .before .before .before .before .before .before .before .before .marks-of .ensures) (c .before .before .before .before .before .mark-kept .ensures) (c .count-kept .ensures)
+    let e = c .before .before .before .before .before .before .before .before .before .before .before .before .before .before .pre in bytes-kept _ _ (e .accepted) _ (e .there) (c .before .before .before .before .before .before .before .before .before .marks-of .ensures .marked) (c .before .before .before .before .before .mark-kept .ensures) (c .count-kept .ensures)
 
 pub keep-spec : {M : Type 1} → statement M
 keep-spec =

@@ -55,9 +55,9 @@ ordered-requires c κs =
     let v = c .before .before .before .before in
     let m = v .before .before .before .before in
     let a = m .before .before .before .before .before .before in (
-      all-covered (a .args .l) (a .pre .0) (m .before .before .first-stranger .ensures) (m .marks-of .ensures) (m .before .if1 .left)
+      all-covered (a .args .l) (a .pre .0) (m .before .before .first-stranger .ensures) (m .marks-of .ensures .marked) (m .before .if1 .left)
           (sym (v .covering-of .ensures) ∙ c .before .before .enum-told .given .1),
-      m .marks-of .ensures,
+      m .marks-of .ensures .marked,
       a .pre .1,
     )
 
@@ -66,7 +66,7 @@ returns-2 c =
     let v = c .before .before .before .before in
     let m = v .before .before .before .before in
     let a = m .before .before .before .before .before .before in
-    missed-refused _ (a .pre .0) (m .before .before .first-stranger .ensures) (m .marks-of .ensures) (m .before .if1 .left)
+    missed-refused _ (a .pre .0) (m .before .before .first-stranger .ensures) (m .marks-of .ensures .marked) (m .before .if1 .left)
     _ (sym (v .covering-of .ensures) ∙ c .before .before .covering .given .1) (c .refused2 .ensures)
 
 returns-3 : tie.Need-returns-3
@@ -74,7 +74,7 @@ returns-3 c =
     let v = c .before .before .before .before in
     let m = v .before .before .before .before in
     let a = m .before .before .before .before .before .before in
-    doubled-refused _ (a .pre .0) (m .before .before .first-stranger .ensures) (m .marks-of .ensures) (m .before .if1 .left)
+    doubled-refused _ (a .pre .0) (m .before .before .first-stranger .ensures) (m .marks-of .ensures .marked) (m .before .if1 .left)
     _ (sym (v .covering-of .ensures) ∙ c .before .before .covering2 .given .1) (c .refused3 .ensures)
 
 returns-4 : tie.Need-returns-4
@@ -82,7 +82,7 @@ returns-4 c =
     let v = c .before .before .before .before .before in
     let m = v .before .before .before .before in
     let a = m .before .before .before .before .before .before in
-    covered-judged _ (a .pre .0) (m .before .before .first-stranger .ensures) (m .marks-of .ensures) (m .before .if1 .left)
+    covered-judged _ (a .pre .0) (m .before .before .first-stranger .ensures) (m .marks-of .ensures .marked) (m .before .if1 .left)
     (sym (v .covering-of .ensures) ∙ c .before .before .before .enum-told .given .1) (c .ordered .ensures)
 
 pub judge-parts-spec : {M : Type 1} → statement M

@@ -18,13 +18,13 @@ order-requires : tie.Need-order-requires
 order-requires c κs =
     let n = c .before .before in
     let a = n .before .before .before .before .before .before in
-    (readied (a .pre .0) (n .note-net .ensures), a .pre .2)
+    (readied (a .pre .0) (n .note-net .ensures .noted), a .pre .2)
 
 lowest-on-cycle-requires : tie.Need-lowest-on-cycle-requires
 lowest-on-cycle-requires c κs =
     let o = c .before .before in
     let a = o .before .before .before .before .before .before .before .before .before in
-    readied (a .pre .0) (o .before .before .before .note-net .ensures)
+    readied (a .pre .0) (o .before .before .before .note-net .ensures .noted)
 
 mul-refused : tie.Need-mul-refused
 mul-refused c =

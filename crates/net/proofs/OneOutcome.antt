@@ -1,0 +1,102 @@
+-- For each public function, any two outcomes that its promise allows are equal: the answer, or every word of the lent net.
+use Prim.Native.Nat.{ℕ, _+_, _-_, _<_, _≤_}
+use native.Mathlib.Omega.{arith}
+use mathlib.Core.Path.{_≡_, refl, sym, subst⁻¹, _∙_}
+use mathlib.Core.Logic.{_⊎_, inl, inr}
+use mathlib.Core.List.{List}
+use lib.ListN.{length, getD}
+use Rattle.paper.specs.Formula.{ℓ}
+use Rattle.paper.specs.Outcome.{OneAnswer}
+use Rattle.paper.proofs.Bools.{pick}
+use Rattle.paper.proofs.Outcome.{by-equation, by-entries}
+use Rattle.table.proofs.Meets.{lt-or-le}
+use Rattle.net.specs.Net.{guardsFrom, nextsFrom, firstsFrom, netLength, Chosen, Noted, ParentWord, GuardWord, ChainWord, Cleared, clearTo}
+
+module _ (net : List ℕ) where
+  pub guard-of : (i : ℕ) → OneAnswer (λ r. r ≡ ℓ (getD net (guardsFrom + i) 0))
+  guard-of i = by-equation (ℓ (getD net (guardsFrom + i) 0))
+
+  pub next-of : (k : ℕ) → OneAnswer (λ r. r ≡ getD net (nextsFrom + k) 0)
+  next-of k = by-equation (getD net (nextsFrom + k) 0)
+
+  pub first-of : (v : ℕ) → OneAnswer (λ r. r ≡ getD net (firstsFrom + v) 0)
+  first-of v = by-equation (getD net (firstsFrom + v) 0)
+
+pub clear-of : (rows : List ℕ) (i j : ℕ) → OneAnswer (λ r. Cleared rows i j r)
+clear-of rows i j r s p q = by-equation (clearTo rows i j) r s (p .exactly) (q .exactly)
+
+-- a word of a part, by its place there
+module _ (xs ys : List ℕ) (from : ℕ) {i : ℕ} (h : from ≤ i) where
+  placed : ((k : ℕ) → i ≡ from + k → getD xs (from + k) 0 ≡ getD ys (from + k) 0) → getD xs i 0 ≡ getD ys i 0
+  placed same = let e : i ≡ from + (i - from) = omega arith in subst⁻¹ (λ m. getD xs m 0 ≡ getD ys m 0) e (same (i - from) e)
+
+module _ (rows chosen : List ℕ) (#N : ℕ) (made : Chosen rows chosen #N) (old : List ℕ) where
+  module _ {xs ys : List ℕ} (p : Noted rows chosen #N old xs) (q : Noted rows chosen #N old ys) where
+    -- a word that the net does not give
+    stay : (i : ℕ) → (ParentWord #N i ⊎ (GuardWord #N i ⊎ ChainWord (length chosen) i) → ⊥) → getD xs i 0 ≡ getD ys i 0
+    stay i h = p .others .stays i h ∙ sym (q .others .stays i h)
+
+    few : #N ≤ 4096
+    few = made .tree .nested .few
+
+    parent-word : (i : ℕ) → i < guardsFrom → getD xs i 0 ≡ getD ys i 0
+    parent-word i below = pick (lt-or-le 0 i) (λ some. pick (lt-or-le i #N) (given some) (λ past. stay i (beyond past))) (λ none. stay i (no-row none))
+      where
+        given : 0 < i → i < #N → getD xs i 0 ≡ getD ys i 0
+        given a b = p .noted .parents .parents i a b ∙ sym (q .noted .parents .parents i a b)
+
+        beyond : #N ≤ i → ParentWord #N i ⊎ (GuardWord #N i ⊎ ChainWord (length chosen) i) → ⊥
+        beyond past (inl g) = omega (arith, g .1)
+        beyond past (inr (inl g)) = omega (arith, g .0)
+        beyond past (inr (inr (inl g))) = omega (arith, g .0)
+        beyond past (inr (inr (inr g))) = omega (arith, g)
+
+        no-row : i ≤ 0 → ParentWord #N i ⊎ (GuardWord #N i ⊎ ChainWord (length chosen) i) → ⊥
+        no-row none (inl g) = omega (arith, g .0)
+        no-row none (inr (inl g)) = omega (arith, g .0)
+        no-row none (inr (inr (inl g))) = omega (arith, g .0)
+        no-row none (inr (inr (inr g))) = omega (arith, g)
+
+    guard-word : (i : ℕ) → guardsFrom ≤ i → i < nextsFrom → getD xs i 0 ≡ getD ys i 0
+    guard-word i from below = pick (lt-or-le i (guardsFrom + #N)) (λ h. placed xs ys guardsFrom from (given h)) (λ past. other past)
+      where
+        given : i < guardsFrom + #N → (k : ℕ) → i ≡ guardsFrom + k → getD xs (guardsFrom + k) 0 ≡ getD ys (guardsFrom + k) 0
+        given h k e = p .noted .guards .guards k (omega arith) ∙ sym (q .noted .guards .guards k (omega arith))
+
+        beyond : guardsFrom + #N ≤ i → guardsFrom < i → ParentWord #N i ⊎ (GuardWord #N i ⊎ ChainWord (length chosen) i) → ⊥
+        beyond past more (inl g) = let f = few in omega (arith, g .1)
+        beyond past more (inr (inl g)) = omega (arith, g .1)
+        beyond past more (inr (inr (inl g))) = omega (arith, g .0)
+        beyond past more (inr (inr (inr g))) = omega (arith, g)
+
+        other : guardsFrom + #N ≤ i → getD xs i 0 ≡ getD ys i 0
+        other past =
+            pick (lt-or-le guardsFrom i) (λ more. stay i (beyond past more))
+            (λ less. let e : i ≡ guardsFrom = omega arith in
+            subst⁻¹ (λ m. getD xs m 0 ≡ getD ys m 0) e (p .unguarded ∙ sym (q .unguarded)))
+
+    next-word : (i : ℕ) → nextsFrom ≤ i → i < firstsFrom → getD xs i 0 ≡ getD ys i 0
+    next-word i from below = pick (lt-or-le i (nextsFrom + length chosen)) (λ h. placed xs ys nextsFrom from (given h)) (λ past. stay i (beyond past))
+      where
+        given : i < nextsFrom + length chosen → (k : ℕ) → i ≡ nextsFrom + k → getD xs (nextsFrom + k) 0 ≡ getD ys (nextsFrom + k) 0
+        given h k e = p .noted .nexts k (omega arith) ∙ sym (q .noted .nexts k (omega arith))
+
+        beyond : nextsFrom + length chosen ≤ i → ParentWord #N i ⊎ (GuardWord #N i ⊎ ChainWord (length chosen) i) → ⊥
+        beyond past (inl g) = let f = few in omega (arith, g .1)
+        beyond past (inr (inl g)) = let f = few in omega (arith, g .1)
+        beyond past (inr (inr (inl g))) = omega (arith, g .1)
+        beyond past (inr (inr (inr g))) = omega (arith, g)
+
+    first-word : (i : ℕ) → firstsFrom ≤ i → i < netLength → getD xs i 0 ≡ getD ys i 0
+    first-word i from below = placed xs ys firstsFrom from (λ k e. p .noted .firsts k (omega arith) ∙ sym (q .noted .firsts k (omega arith)))
+
+    each-word : (i : ℕ) → i < netLength → getD xs i 0 ≡ getD ys i 0
+    each-word i h =
+        pick (lt-or-le i guardsFrom) (parent-word i)
+        (λ a. pick (lt-or-le i nextsFrom) (guard-word i a) (λ b. pick (lt-or-le i firstsFrom) (next-word i b) (λ c. first-word i c h)))
+
+  pub note-net : OneAnswer (Noted rows chosen #N old)
+  note-net xs ys p q =
+      let x = p .noted .parents .size in
+      let y = q .noted .parents .size in
+      by-entries xs ys (x ∙ sym y) (λ i h. each-word p q i (omega arith))
