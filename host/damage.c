@@ -9,7 +9,7 @@
 
 int browser_main(int argc, char **argv);
 
-enum { MOST = 65536, ROUNDS = 400, CUTS = 60 };
+enum { MOST = 65536, ROUNDS = 150, CUTS = 40 };
 
 static unsigned char whole[MOST];
 static unsigned char damaged[MOST];

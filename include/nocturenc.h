@@ -7,7 +7,7 @@
  * THE TABLE. Four sections in this order, each a count and then its entries:
  *
  *     variables   V from 1 to 1,024, then V name numbers, strictly ascending. A variable is its position, 0 to V-1.
- *     reads       R from 0 to 8,192, then R variable positions, which the stars below take in turn.
+ *     reads       R from 0 to 8,192, then R variable positions, which the stars below take in turn: each reads that variable primed.
  *     rows        N from 1 to 4,096, then N rows of four words: kind, arg, end, from. A row's label is its position, 0 to N-1.
  *     strategy    S from 0 to 4,096, then S labels, strictly ascending: the assignments chosen.
  *
@@ -15,7 +15,7 @@
  * before this row take. Kinds:
  *
  *     0  FALSE                   arg 0
- *     1  star: an expression     arg is the number of variables it reads; its entries of the reads start at "from"
+ *     1  star: an expression     arg is the number of primed variables it reads; its entries of the reads start at "from"
  *     2  candidate: v' in star   arg is the variable v; its one child is the star
  *     3  conjunction             arg is the number of children, 1 or more
  *     4  disjunction             arg is the number of children, 1 or more
@@ -79,8 +79,8 @@ extern "C" {
  * that `rt staticlib nocturenc` writes; what a thread needs for itself comes on top. */
 #define NOCTURENC_STACK_BYTES 196608
 
-/* The refusal numbers. Each says when it is given, and what its place is. The checks are made in the order 1 and 2 (of a section
- * before its contents), 4, 5, 6, 7, 8, 9, 3, 10 to 14, 15, 18, 16; the first that fails is answered. */
+/* The refusal numbers: when each is given, and what its place is. The answer is the first check that fails, in this order: section
+ * by section its count and presence (1, 2) and its contents (4; 5; 6, 7, 8; 9), then 3, 10 to 14, 15, 18, 16. */
 enum {
     NOCTURENC_ACCEPTED = 0,
     /* Given by every request. */

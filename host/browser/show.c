@@ -33,7 +33,7 @@ static void put_variable(const struct table *table, size_t variable)
         printf("%u", table_entry(table, VARIABLES, variable));
 }
 
-/* The reads of a star. */
+/* The primed variables that a star reads. */
 static void put_reads(const struct table *table, struct row star)
 {
     for (size_t i = 0; i < star.arg; i++) {
@@ -43,6 +43,7 @@ static void put_reads(const struct table *table, struct row star)
             return;
         }
         put_variable(table, table_entry(table, READS, star.from + i));
+        putchar('\'');
     }
 }
 
@@ -143,11 +144,12 @@ void show_assignments(const struct table *table, const uint16_t *labels, size_t 
 
 void show_accepted(uint64_t answer)
 {
+    unsigned variables = nocturenc_variables(answer), rows = nocturenc_rows(answer), transitions = nocturenc_transitions(answer);
     paint(GOOD);
     fputs("accepted", stdout);
     paint(PLAIN);
-    printf(": %u variables, %u rows, %u chosen, %u transitions\n", nocturenc_variables(answer), nocturenc_rows(answer),
-           nocturenc_chosen(answer), nocturenc_transitions(answer));
+    printf(": %u variable%s, %u row%s, %u chosen, %u transition%s\n", variables, variables == 1 ? "" : "s", rows, rows == 1 ? "" : "s",
+           nocturenc_chosen(answer), transitions, transitions == 1 ? "" : "s");
 }
 
 /* The rows around the one at fault, word by word. */
