@@ -46,7 +46,7 @@ static int show_whole(const struct table *table)
     uint64_t filled = nocturenc_order(table->words, table->len, order, NOCTURENC_MOST_CHOSEN);
     fputs("order: ", stdout);
     show_labels(order, nocturenc_filled(filled));
-    printf("transitions: 0 to %u\n", nocturenc_transitions(answer) - 1);
+    printf("transitions: %u, numbered from 0\n", nocturenc_transitions(answer));
     puts("+ chosen by the strategy");
     return 0;
 }
@@ -69,7 +69,7 @@ static int show_transition(const struct table *table, size_t k)
                nocturenc_transitions(judged));
         return 1;
     }
-    printf("transition %zu of 0 to %u\n", k, nocturenc_transitions(judged) - 1);
+    printf("transition %zu; there are %u, numbered from 0\n", k, nocturenc_transitions(judged));
     show_tree(table, marks);
     puts("assignments, in order:");
     uint64_t filled = nocturenc_assignments(table->words, table->len, k, labels, NOCTURENC_MOST_VARIABLES);
