@@ -24,6 +24,13 @@
  *
  * A star that stands where an expression may stand is a test. The leaves are FALSE, the tests and the candidates.
  *
+ * WHAT IS JUDGED. A branch is what is left of the leaves when each disjunction is taken as one of its children and each IF as one
+ * of its arms. A candidate reads what its own star reads and what the stars of every exists and IF around it read. A chosen label
+ * comes before another, or before itself, if some branch holds both and the other reads its variable. The chosen labels are a
+ * strategy if each branch has exactly one of them for each variable, and all of them can be put into one order that respects
+ * "before". There is a transition for each different set of chosen labels that a branch has; it keeps the leaves of every branch
+ * with that set. Transitions are numbered from 0 by these sets, the first differing label deciding, the lower first.
+ *
  * Words are numbers of the host. A file has each word as two bytes, low byte first, so its reader takes
  * bytes[2 * i] + 256 * bytes[2 * i + 1].
  *
@@ -115,8 +122,8 @@ uint64_t nocturenc_judge(const uint16_t *words, size_t words_len);
 uint64_t nocturenc_order(const uint16_t *words, size_t words_len, uint16_t *out, size_t out_len);
 
 /* Judges the table and fills the first N bytes of out, one for each label: 1 for a leaf that transition k keeps, else 0.
- * Transition k is the formula with FALSE for every test and candidate that is not kept. Transitions are numbered from 0.
- * Accepted: N. A length of NOCTURENC_MOST_ROWS is always enough. */
+ * Transition k is the formula with FALSE for every test and candidate that is not kept. Accepted: N. A length of
+ * NOCTURENC_MOST_ROWS is always enough. */
 uint64_t nocturenc_transition(const uint16_t *words, size_t words_len, size_t k, uint8_t *out, size_t out_len);
 
 /* Judges the table and fills the first V words of out with the chosen labels of transition k in the reported order, one for each

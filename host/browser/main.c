@@ -58,11 +58,11 @@ static int show_transition(const struct table *table, size_t k)
     static uint16_t labels[NOCTURENC_MOST_VARIABLES];
     struct marks marks = {kept, NO_LABEL};
     uint64_t judged = nocturenc_judge(table->words, table->len);
-    uint64_t answer = nocturenc_transition(table->words, table->len, k, kept, NOCTURENC_MOST_ROWS);
     if (nocturenc_refusal(judged) != 0) {
         show_refusal(table, judged);
         return 1;
     }
+    uint64_t answer = nocturenc_transition(table->words, table->len, k, kept, NOCTURENC_MOST_ROWS);
     if (nocturenc_refusal(answer) != 0) {
         printf("refused %u at %u: %s: transition %zu is asked for, of %u\n", nocturenc_refusal(answer),
                (unsigned)nocturenc_place(answer), nocturenc_refusal_text(nocturenc_refusal(answer)), k,
@@ -102,8 +102,8 @@ int main(int argc, char **argv)
     if (table_load(&table, argv[1]))
         status = argc == 3 ? show_transition(&table, k) : show_whole(&table);
     table_free(&table);
-    if (fflush(stdout) != 0) {
-        perror("browser: standard output");
+    if (fflush(stdout) != 0 || ferror(stdout)) {
+        fputs("browser: standard output cannot be written\n", stderr);
         return 2;
     }
     return status;
