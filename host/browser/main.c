@@ -69,7 +69,7 @@ static int show_transition(const struct table *table, size_t k)
                nocturenc_transitions(judged));
         return 1;
     }
-    printf("transition %zu; there are %u, numbered from 0\n", k, nocturenc_transitions(judged));
+    printf("transition %zu of %u, numbered from 0\n", k, nocturenc_transitions(judged));
     show_tree(table, marks);
     puts("assignments, in order:");
     uint64_t filled = nocturenc_assignments(table->words, table->len, k, labels, NOCTURENC_MOST_VARIABLES);
