@@ -53,11 +53,11 @@ browser_shows() {
     [ "$seen" -gt 0 ]
 }
 
-# The browser's own files with another main, which hands it damaged examples by the thousand.
+# The browser's own files with another main, which hands it damaged examples by the thousand, with names beside them.
 browser_damaged() {
     cc -std=c99 "${strict[@]}" "${watched[@]}" -Dmain=browser_main -c host/browser/main.c -o target/host/browser_main.o &&
         cc -std=c99 "${strict[@]}" "${watched[@]}" host/damage.c host/browser/table.c host/browser/show.c target/host/browser_main.o \
-            "$archive_for_c" -o target/host/damage || return 1
+            "$archive_for_c" -o target/host/damage && cat examples/*.names > target/host/damaged.names || return 1
     target/host/damage target/host/damaged.table examples/*.table > target/host/damage.out 2> target/host/damage.err
     local status=$?
     tail -n "$((status == 0 ? 1 : 40))" target/host/damage.err
