@@ -47,11 +47,21 @@ static void copy(size_t size)
         damaged[i] = whole[i];
 }
 
-/* One to three bytes get another value, most of them among the first, where the counts of a small table are. */
+/* A byte to change: one of the last, which are of the strategy, or one of the first, where counts and reads are, or any. */
+static size_t target(uint64_t *seed, size_t size)
+{
+    switch (below(seed, 4)) {
+    case 0: return below(seed, size < 60 ? size : 60);
+    case 1: return below(seed, size);
+    default: return size - 1 - below(seed, size < 40 ? size : 40);
+    }
+}
+
+/* One to three bytes get another value. */
 static void change(uint64_t *seed, size_t size)
 {
     for (size_t left = 1 + below(seed, 3); left > 0; left--) {
-        size_t at = below(seed, below(seed, 3) == 0 && size > 100 ? 100 : size);
+        size_t at = target(seed, size);
         size_t small = below(seed, 9);
         size_t flipped = damaged[at] ^ (size_t)1 << below(seed, 8);
         damaged[at] = (unsigned char)(below(seed, 2) == 0 ? small : flipped);

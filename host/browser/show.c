@@ -84,14 +84,18 @@ static int is_sliced(const struct table *table, size_t label)
     return kind == KIND_CANDIDATE || (kind == KIND_STAR && !is_own_star(table, label));
 }
 
-/* Marks the rows that the strategy names. */
-static void find_chosen(const struct table *table, uint8_t *chosen)
+/* A byte for each row, 1 where the strategy names it. */
+struct chosen {
+    uint8_t row[NOCTURENC_MOST_ROWS];
+};
+
+static void find_chosen(const struct table *table, struct chosen *chosen)
 {
-    memset(chosen, 0, NOCTURENC_MOST_ROWS);
+    memset(chosen, 0, sizeof *chosen);
     for (size_t i = 0; i < table->section[STRATEGY].count; i++) {
         unsigned label = table_entry(table, STRATEGY, i);
         if (label < table->section[ROWS].count)
-            chosen[label] = 1;
+            chosen->row[label] = 1;
     }
 }
 
@@ -111,13 +115,13 @@ static void put_line(const struct table *table, size_t label, size_t depth, int 
 void show_tree(const struct table *table, struct marks marks)
 {
     static unsigned ends[NOCTURENC_MOST_ROWS]; /* of the rows whose subtree the label lies in, outermost first */
-    static uint8_t chosen[NOCTURENC_MOST_ROWS];
+    static struct chosen chosen;
     size_t depth = 0;
-    find_chosen(table, chosen);
+    find_chosen(table, &chosen);
     for (size_t label = 0; label < table->section[ROWS].count; label++) {
         while (depth > 0 && ends[depth - 1] <= label)
             depth--;
-        put_line(table, label, depth, chosen[label], marks);
+        put_line(table, label, depth, chosen.row[label], marks);
         ends[depth++] = table_row(table, label).end;
     }
 }
@@ -183,8 +187,8 @@ static void put_row_at(const struct table *table, size_t label)
 /* A variable with its candidates. */
 static void put_candidates(const struct table *table, size_t variable)
 {
-    static uint8_t chosen[NOCTURENC_MOST_ROWS];
-    find_chosen(table, chosen);
+    static struct chosen chosen;
+    find_chosen(table, &chosen);
     printf("  variable %zu is ", variable);
     put_variable(table, variable);
     fputs("; its candidates, + where chosen:", stdout);
@@ -192,7 +196,7 @@ static void put_candidates(const struct table *table, size_t variable)
     for (size_t label = 0; label < table->section[ROWS].count; label++) {
         struct row row = table_row(table, label);
         if (row.kind == KIND_CANDIDATE && row.arg == variable) {
-            printf(" %s%zu", chosen[label] ? "+" : "", label);
+            printf(" %s%zu", chosen.row[label] ? "+" : "", label);
             found++;
         }
     }
