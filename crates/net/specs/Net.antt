@@ -8,8 +8,8 @@ use mathlib.Core.Path.{_≡_}
 use mathlib.Core.List.{List}
 use lib.Dec.{eqb}
 use lib.ListN.{length, getD}
-use Rattle.table.specs.First.{first}
-use Rattle.table.specs.Rows.{kindOf, argOf, endOf, Nested}
+use Rattle.rows.specs.First.{first}
+use Rattle.rows.specs.Rows.{kindOf, argOf, endOf, Nested}
 use Rattle.net.specs.Prior.{parentOf, guardOf, together}
 
 -- where each part begins, and the whole length

@@ -18,8 +18,9 @@ use Rattle.table.specs.declared.Layout.{Layout}
 use Rattle.table.specs.declared.Checked.{Checked}
 use Rattle.table.specs.declared.Checked.the-variants.{Sound, Refused}
 use Rattle.table.specs.Sections.{checked}
-use Rattle.table.specs.Tables.{Understood, formulaIn, chosenIn}
-use Rattle.table.proofs.Tables.{understood}
+use Rattle.written.specs.Tables.{Understood, formulaIn}
+use Rattle.table.specs.Sections.{chosenIn}
+use Rattle.written.proofs.Tables.{understood}
 use Rattle.ordering.specs.Prior.{written}
 use Rattle.strategy.specs.declared.Accepted.{Accepted}
 use Rattle.strategy.specs.declared.Judged.{Judged}

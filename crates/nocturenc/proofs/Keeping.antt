@@ -22,10 +22,11 @@ use Rattle.paper.proofs.Numbers.{numbers-say}
 use Rattle.paper.specs.Statements.{NumbersSay}
 use Rattle.paper.proofs.Order.{reported-is-order}
 use Rattle.table.specs.declared.Layout.{Layout}
-use Rattle.table.specs.Tables.{Understood, rowsIn, readsIn, chosenIn, formulaIn}
-use Rattle.table.specs.Formula.{formulaAt}
-use Rattle.table.proofs.Rules.{rest}
-use Rattle.table.proofs.Words.{map-back, word-mem}
+use Rattle.written.specs.Tables.{Understood, formulaIn}
+use Rattle.table.specs.Sections.{rowsIn, readsIn, chosenIn}
+use Rattle.rows.specs.Formula.{formulaAt}
+use Rattle.rows.proofs.Rules.{rest}
+use Rattle.written.proofs.Words.{map-back, word-mem}
 use Rattle.counting.specs.Marks.{Marked, AllBelow}
 use Rattle.strategy.specs.declared.Accepted.{Accepted}
 use Rattle.strategy.specs.Judge.{proposalIn}

@@ -4,5 +4,3 @@ pub mod Copies
 pub mod Keeping
 pub mod Reading
 pub mod OneOutcome
-pub mod Demands
-pub mod Cases

@@ -1,4 +1,2 @@
 pub mod Requests
 pub mod Packed
-pub mod Demands
-pub mod Cases

@@ -14,7 +14,7 @@ use Rattle.paper.specs.Order.{order}
 use Rattle.paper.specs.Transition.{keys, isKept}
 use Rattle.table.specs.declared.Layout.{Layout}
 use Rattle.table.specs.Sections.{refusal}
-use Rattle.table.specs.Tables.{formulaIn}
+use Rattle.written.specs.Tables.{formulaIn}
 use Rattle.strategy.specs.declared.Accepted.{Accepted}
 use Rattle.strategy.specs.declared.Judged.{Judged}
 use Rattle.strategy.specs.declared.Judged.the-variants as judged

@@ -10,7 +10,7 @@ use borrow.Author.Tests.{ltb-true, lt-ltb}
 use Rattle.paper.specs.Lists.{anyOf}
 use Rattle.paper.proofs.Bools.{both, and-left, and-right, or-left, or-right, or-cases, not-so, same-answer, pick}
 use Rattle.paper.proofs.Lists.{to-any, of-any}
-use Rattle.table.specs.Rows.{kindOf, endOf}
+use Rattle.rows.specs.Rows.{kindOf, endOf}
 use Rattle.net.specs.Prior.{upTo, lastOf, isGuarded, guardOf, starReads, isFrozen}
 use Rattle.net.specs.Net.{Tree}
 use Rattle.net.proofs.Last.{Last, last-of}

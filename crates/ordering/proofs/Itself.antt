@@ -8,7 +8,7 @@ use mathlib.Core.List.{List}
 use lib.ListN.{length, getD}
 use borrow.Author.Tests.{eq-eqb}
 use Rattle.paper.proofs.Bools.{not-so, same-answer}
-use Rattle.table.specs.Rows.{fromOf}
+use Rattle.rows.specs.Rows.{fromOf}
 use Rattle.net.specs.Prior.{isFrozen, together, prior, guardOf}
 use Rattle.net.specs.Net.{guardsFrom}
 use Rattle.ordering.specs.Prior.{Ready}

@@ -12,9 +12,9 @@ use lib.Seq.{drop-cons}
 use borrow.Author.Tests.{eq-eqb, ne-eqb, eqb-true, lt-ltb, ltb-true, le-leb, leb-true}
 use Rattle.paper.specs.Lists.{anyOf}
 use Rattle.paper.proofs.Bools.{both, and-left, and-right, or-left, or-right, or-cases, same-answer, pick}
-use Rattle.table.specs.First.{first}
-use Rattle.table.specs.Rows.{kindOf, argOf, fromOf}
-use Rattle.table.proofs.First.{first-le, first-at, first-below}
+use Rattle.rows.specs.First.{first}
+use Rattle.rows.specs.Rows.{kindOf, argOf, fromOf}
+use Rattle.rows.proofs.First.{first-le, first-at, first-below}
 use Rattle.net.specs.Prior.{starReads, guardOf}
 use Rattle.net.specs.Net.{firstWith, guardsFrom, nextsFrom, firstsFrom}
 use Rattle.ordering.specs.Prior.{Ready}

@@ -8,7 +8,7 @@ use lib.Dec.{eqb, ltb}
 use lib.ListN.{length, getD, set, length-set}
 use borrow.Author.Tests.{ne-eqb, lt-ltb, le-ltb, ltb-true, not-true, not-false}
 use Rattle.paper.proofs.Bools.{both, and-left, and-right, not-so}
-use Rattle.table.specs.Rows.{kindOf, fromOf}
+use Rattle.rows.specs.Rows.{kindOf, fromOf}
 use Rattle.net.specs.Prior.{isFrozen, prior}
 use Rattle.ordering.specs.Prior.{Ready}
 use Rattle.ordering.specs.Graph.{Graph, Next, free, outside, slots, Started}

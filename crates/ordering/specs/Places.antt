@@ -8,7 +8,7 @@ use mathlib.Core.List.{List}
 use lib.Dec.{eqb, ltb, leb}
 use lib.ListN.{length, getD, take, drop}
 use Rattle.paper.specs.Lists.{anyOf}
-use Rattle.table.specs.Rows.{kindOf, argOf, fromOf}
+use Rattle.rows.specs.Rows.{kindOf, argOf, fromOf}
 use Rattle.net.specs.Prior.{upTo, isGuarded, starReads, isFrozen, together, prior}
 use Rattle.ordering.specs.Graph.{Graph}
 

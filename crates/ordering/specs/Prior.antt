@@ -7,8 +7,8 @@ use mathlib.Core.Path.{_≡_}
 use lib.Dec.{eqb}
 use lib.ListN.{length, getD, drop}
 use Rattle.paper.specs.Order.{greedyBy, onCycle}
-use Rattle.table.specs.First.{first}
-use Rattle.table.specs.Rows.{kindOf, argOf, fromOf}
+use Rattle.rows.specs.First.{first}
+use Rattle.rows.specs.Rows.{kindOf, argOf, fromOf}
 use Rattle.net.specs.Prior.{upTo, prior}
 use Rattle.net.specs.Net.{Chosen, Net}
 

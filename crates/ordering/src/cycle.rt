@@ -16,9 +16,9 @@ use crate::order::least;
 use net::guard_of;
 use paper::Label;
 use paper::Variable;
-use table::rows::arg_of;
-use table::rows::from_of;
-use table::rows::wide;
+use rows::arg_of;
+use rows::from_of;
+use rows::wide;
 
 // Where the walk stands: how many numbers the path has, and how many segments; the position after the one worked on; and
 // the lowest number found on a cycle so far.

@@ -15,9 +15,9 @@ use net::guard_of;
 use net::next_of;
 use paper::Label;
 use paper::Variable;
-use table::rows::arg_of;
-use table::rows::from_of;
-use table::rows::wide;
+use rows::arg_of;
+use rows::from_of;
+use rows::wide;
 
 // A place that a finger points to: a star (label 0 for none), its next read, and the next number of the read before.
 pub struct Spot {

@@ -11,7 +11,7 @@ ghost use Rattle.ordering.specs.Placing.{State, Lowered, Visited, Lowest
 ghost use Rattle.ordering.specs.Places.{graphOf};
 use crate::fingers::seek;
 use crate::fingers::start;
-use table::rows::wide;
+use rows::wide;
 
 // The lower of two numbers.
 pub fn least(a: usize, b: usize) -> usize

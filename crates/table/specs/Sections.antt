@@ -13,8 +13,8 @@ use Rattle.table.specs.declared.Step.{Step}
 use Rattle.table.specs.declared.Step.the-variants.{Next, Halt}
 use Rattle.table.specs.declared.Checked.{Checked}
 use Rattle.table.specs.declared.Checked.the-variants.{Sound, Refused}
-use Rattle.table.specs.First.{first}
-use Rattle.table.specs.Rows.{falls, breaksRules, takenBefore, isDeep}
+use Rattle.rows.specs.First.{first}
+use Rattle.rows.specs.Rows.{falls, breaksRules, takenBefore, isDeep}
 
 abbrev pub refusal : ℕ → ℕ → Refusal
 refusal number place = record { number = number; place = place }
@@ -114,6 +114,20 @@ layout #V #R #N #S = record {
   «rows_at» = #V + #R + 3;
   «chosen_at» = #V + #R + 4 * #N + 4;
 }
+
+-- the parts of words laid out so: names, reads, rows, strategy
+module _ (words : List ℕ) (l : Layout) where
+  abbrev pub namesIn : List ℕ
+  namesIn = take (l .variables) (drop 1 words)
+
+  abbrev pub readsIn : List ℕ
+  readsIn = take (l .reads) (drop (l .«reads_at») words)
+
+  abbrev pub rowsIn : List ℕ
+  rowsIn = drop (l .«rows_at») words
+
+  abbrev pub chosenIn : List ℕ
+  chosenIn = take (l .chosen) (drop (l .«chosen_at») words)
 
 abbrev pub answerOf : Step → Checked
 answerOf (Halt r) = Refused r

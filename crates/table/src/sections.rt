@@ -4,21 +4,21 @@ ghost use mathlib.Core.Path.{_≡_};
 ghost use Prim.Native.Nat.{_+_, _*_, _≤_, _<_, _^_};
 ghost use mathlib.Core.Bool.{_||_};
 ghost use lib.ListN.{length};
-ghost use Rattle.table.specs.First.{first};
-ghost use Rattle.table.specs.Rows.{falls};
+ghost use Rattle.rows.specs.First.{first};
+ghost use Rattle.rows.specs.Rows.{falls};
 ghost use Rattle.table.specs.Sections.{halt, start, openAt, beyond, variablesAt, readsAt, rowsAt, strategyAt, endAt, sections, answerOf};
 use crate::Checked;
 use crate::Cursor;
 use crate::Layout;
 use crate::Refusal;
 use crate::Step;
-use crate::depth::first_deep;
-use crate::rows::first_broken;
-use crate::rows::first_fall;
-use crate::rows::reads_taken;
-use crate::rows::wide;
 use paper::Label;
 use paper::Variable;
+use rows::depth::first_deep;
+use rows::first_broken;
+use rows::first_fall;
+use rows::reads_taken;
+use rows::wide;
 
 // A refusal as a step.
 fn refused(number: u8, place: usize) -> Step

@@ -3,7 +3,7 @@
 use Prim.Native.Nat.{_-_, _<_}
 use native.Mathlib.Omega.{arith}
 use borrow.Author.Needs.{needs}
-use Rattle.table.proofs.Rules.{number-of}
+use Rattle.rows.proofs.Rules.{number-of}
 use Rattle.net.specs.Net.{Parents, Guards}
 use Rattle.net.proofs.Notes.{parents-kept, guards-first, guards-more, guards-fewer}
 use Rattle.net.proofs.note_guards.Statement.{statement}

@@ -3,7 +3,7 @@ use native.Mathlib.Omega.{arith}
 use mathlib.Core.Path.{_≡_, sym, ap, _∙_}
 use lib.ListN.{length}
 use Rattle.paper.specs.declared.Label.{Label}
-use Rattle.table.specs.Rows.{fromOf}
+use Rattle.rows.specs.Rows.{fromOf}
 use Rattle.net.specs.Prior.{prior}
 use Rattle.ordering.specs.Places.{Place}
 use Rattle.ordering.proofs.Onward.{stop-in}

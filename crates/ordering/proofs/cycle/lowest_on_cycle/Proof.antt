@@ -6,7 +6,7 @@ use mathlib.Core.Bool.{false}
 use lib.ListN.{length}
 use borrow.Author.Count.{below-more}
 use Rattle.paper.proofs.Bools.{not-so}
-use Rattle.table.proofs.First.{first-same}
+use Rattle.rows.proofs.First.{first-same}
 use Rattle.ordering.specs.Prior.{isCyclic, lowestCyclic}
 use Rattle.ordering.specs.Graph.{free}
 use Rattle.ordering.specs.Path.{ringed, Walked, Best}

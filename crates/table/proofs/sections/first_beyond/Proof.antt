@@ -7,7 +7,7 @@ use borrow.Author.Tests.{le-leb, lt-leb}
 use borrow.Author.Count.{below-more}
 use borrow.Author.Needs.{needs}
 use Rattle.table.specs.Sections.{beyond}
-use Rattle.table.proofs.First.{first-found, first-none}
+use Rattle.rows.proofs.First.{first-found, first-none}
 use Rattle.table.proofs.sections.first_beyond.Statement.{statement}
 use Rattle.table.proofs.sections.first_beyond.Tie as tie
 

@@ -5,9 +5,9 @@ use mathlib.Core.Bool.{false, _||_}
 use mathlib.Core.Path.{_≡_, sym, _∙_}
 use borrow.Author.Count.{below-more}
 use borrow.Author.Needs.{needs}
-use Rattle.table.specs.Rows.{falls}
+use Rattle.rows.specs.Rows.{falls}
 use Rattle.table.specs.Sections.{beyond}
-use Rattle.table.proofs.First.{first-found, first-none}
+use Rattle.rows.proofs.First.{first-found, first-none}
 use Rattle.table.proofs.sections.first_unfit.Statement.{statement}
 use Rattle.table.proofs.sections.first_unfit.Tie as tie
 

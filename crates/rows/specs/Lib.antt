@@ -1,0 +1,4 @@
+pub mod First
+pub mod Rows
+pub mod Formula
+pub mod Walk
