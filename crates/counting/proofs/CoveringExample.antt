@@ -6,7 +6,7 @@ use mathlib.Core.Bool.{true, false}
 use mathlib.Core.List.{List, [], _∷_}
 use lib.ListN.{drop}
 use Rattle.paper.specs.Formula.{𝓋}
-use Rattle.rows.specs.First.{first}
+use Rattle.entries.specs.First.{first}
 use Rattle.rows.specs.Rows.{formOf}
 use Rattle.rows.specs.Formula.{starAt, childrenAt, nodeAt, formulaAt}
 use Rattle.rows.specs.Walk.{valueAt}

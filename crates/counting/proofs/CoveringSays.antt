@@ -25,9 +25,9 @@ use Rattle.paper.proofs.Lists.{those-append, to-those, of-those}
 use Rattle.paper.proofs.Variables.{to-variables}
 use Rattle.paper.proofs.Readings.{leaves-map, carried}
 use Rattle.paper.proofs.Cover.{counts-say}
-use Rattle.rows.specs.First.{first}
+use Rattle.entries.specs.First.{first}
 use Rattle.rows.specs.Formula.{formulaAt}
-use Rattle.rows.proofs.First.{first-found, first-none, first-below, first-at, first-all, first-same}
+use Rattle.entries.proofs.First.{first-found, first-none, first-below, first-at, first-all, first-same}
 use Rattle.rows.proofs.Walks.{value-read}
 use Rattle.counting.specs.declared.Words.{Words}
 use Rattle.counting.specs.declared.Covering.the-variants.{Missed, Doubled, Covered}

@@ -9,7 +9,7 @@ use Rattle.paper.specs.declared.Variable.{Variable}
 use Rattle.paper.specs.Formula.{𝓋}
 use Rattle.paper.specs.Judgement.{Judgement, refused}
 use Rattle.paper.specs.Structure.Reading.{Reading}
-use Rattle.rows.specs.First.{first}
+use Rattle.entries.specs.First.{first}
 use Rattle.rows.specs.Walk.{valueAt}
 use Rattle.counting.specs.declared.Words.{Words}
 use Rattle.counting.specs.declared.Covering.{Covering}

@@ -1,7 +1,7 @@
 // Chosen labels of each variable on the branches, 64 variables at a time: refusals 11 and 12.
 ghost use mathlib.Core.Path.{_≡_};
 ghost use Prim.Native.Nat.{_+_, _≤_, _<_, min};
-ghost use Rattle.rows.specs.First.{first};
+ghost use Rattle.entries.specs.First.{first};
 ghost use Rattle.rows.specs.Walk.{Walkable};
 ghost use Rattle.counting.specs.Words.{unitWords, joinWords, leafWords, maskOf, wordsAt, bitAt, further, coveringOf};
 use crate::Covering;

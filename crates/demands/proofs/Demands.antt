@@ -25,9 +25,8 @@ use Rattle.paper.proofs.Theorems.{theorem2, keys-listed, key-length, carried-ou
 use Rattle.table.specs.declared.Layout.{Layout}
 use Rattle.table.specs.declared.Checked.{Checked}
 use Rattle.table.specs.declared.Checked.the-variants.{Sound, Refused}
-use Rattle.table.specs.Sections.{checked}
+use Rattle.table.specs.Sections.{checked, chosenIn}
 use Rattle.written.specs.Tables.{Understood, formulaIn}
-use Rattle.table.specs.Sections.{chosenIn}
 use Rattle.strategy.specs.declared.Accepted.{Accepted}
 use Rattle.strategy.specs.declared.Judged.{Judged}
 use Rattle.strategy.specs.declared.Judged.the-variants as judged
@@ -35,13 +34,13 @@ use Rattle.strategy.specs.Judge.{judgedOf, proposalIn, acceptedWith}
 use Rattle.strategy.proofs.Exactly.{accepted-exactly}
 use Rattle.strategy.proofs.Placed.{order-length}
 use Rattle.transitions.proofs.Words.{those-same, as-many-ordered}
-use Rattle.nocturenc.specs.declared.Counts.{Counts}
-use Rattle.nocturenc.specs.declared.Answer.the-variants as answer
-use Rattle.nocturenc.specs.Requests.{judgeOf, judgeAnswer, Outcome, refuses, fills, unlessShort, unlessAbsent, outcomeOf}
-use Rattle.nocturenc.specs.Requests.{orderOutcome, ofTransition, transitionOutcome, assignmentsOutcome}
-use Rattle.nocturenc.specs.Requests.{reported, keyOf, markOf, marksOf, assignedOf}
+use Rattle.answers.specs.declared.Counts.{Counts}
+use Rattle.answers.specs.declared.Answer.the-variants as answer
+use Rattle.answers.specs.Requests.{judgeOf, judgeAnswer, Outcome, refuses, fills, unlessShort, unlessAbsent, outcomeOf}
+use Rattle.answers.specs.Requests.{orderOutcome, ofTransition, transitionOutcome, assignmentsOutcome}
+use Rattle.answers.specs.Requests.{reported, keyOf, markOf, marksOf, assignedOf}
 use Rattle.demands.specs.Demands.{RefusalWritesNothing, keysIn, JudgedExactly, TransitionsListed, CarriedOutInOrder, TrueByTransitions}
-use Rattle.nocturenc.proofs.Accepted.{is-sound, is-understood, is-strategy, count-is}
+use Rattle.answers.proofs.Accepted.{is-sound, is-understood, is-strategy, count-is}
 
 -- Demand 1
 pub refusal-writes-nothing : RefusalWritesNothing

@@ -18,11 +18,11 @@ use Rattle.table.specs.declared.Layout.{Layout}
 use Rattle.table.specs.declared.Refusal.{Refusal}
 use Rattle.written.specs.Tables.{formulaIn}
 use Rattle.strategy.specs.Judge.{proposalIn}
-use Rattle.nocturenc.specs.declared.Counts.{Counts}
-use Rattle.nocturenc.specs.declared.Answer.{Answer}
-use Rattle.nocturenc.specs.declared.Answer.the-variants as answer
-use Rattle.nocturenc.specs.declared.Filled.the-variants as filled
-use Rattle.nocturenc.specs.Requests.{judgeOf, Outcome, refuses, fills, Fills, orderOf, transitionOf, assignmentsOf, reported, keyOf, marksOf, assignedOf}
+use Rattle.answers.specs.declared.Counts.{Counts}
+use Rattle.answers.specs.declared.Answer.{Answer}
+use Rattle.answers.specs.declared.Answer.the-variants as answer
+use Rattle.answers.specs.declared.Filled.the-variants as filled
+use Rattle.answers.specs.Requests.{judgeOf, Outcome, refuses, fills, Fills, orderOf, transitionOf, assignmentsOf, reported, keyOf, marksOf, assignedOf}
 
 -- Demand 1: every request has an answer, by its contract, which asks nothing of the caller; one that refuses leaves every lent
 -- word or byte as it was.

@@ -11,9 +11,9 @@ use lib.ListN.{length, getD, take, set, length-set}
 use lib.Seq.{getD-set-same, getD-set-other, getD-take}
 use borrow.Author.Tests.{eq-eqb, ne-eqb, eqb-true, eqb-false}
 use Rattle.paper.proofs.Bools.{pick}
-use Rattle.rows.specs.First.{first}
+use Rattle.entries.specs.First.{first}
 use Rattle.rows.specs.Rows.{argOf}
-use Rattle.rows.proofs.First.{first-found, first-none, first-same}
+use Rattle.entries.proofs.First.{first-found, first-none, first-same}
 use Rattle.net.specs.Net.{guardsFrom, nextsFrom, firstsFrom, netLength, Parents, Guards, Net, firstWith}
 use Rattle.net.proofs.Notes.{parents-kept, guards-kept}
 

@@ -6,12 +6,12 @@ ghost use Rattle.paper.specs.Formula.{ℓ};
 ghost use Rattle.rows.specs.Rows.{kindOf};
 ghost use Rattle.net.specs.Prior.{isUnder, parentOf, guardOf};
 ghost use Rattle.net.specs.Net.{Tree, Chosen, Parents, Guards, Net, Cleared, guardsFrom, nextsFrom, firstsFrom, netLength};
+use entries::wide;
 use paper::Label;
 use paper::Variable;
 use rows::arg_of;
 use rows::end_of;
 use rows::kind_of;
-use rows::wide;
 
 // The row over a row.
 pub fn parent_of(net: &[u16; 11264], at: Label) -> Label

@@ -4,9 +4,9 @@ use mathlib.Core.Path.{_≡_, sym, _∙_}
 use mathlib.Core.List.{List}
 use lib.ListN.{length}
 use Rattle.strategy.specs.declared.Accepted.{Accepted}
-use Rattle.nocturenc.specs.declared.Answer.{Answer}
-use Rattle.nocturenc.specs.declared.Filled.{Filled}
-use Rattle.nocturenc.specs.Requests.{judgeOf, Outcome, transitionOutcome, assignmentsOutcome, orderOf, transitionOf, assignmentsOf, Fills}
+use Rattle.answers.specs.declared.Answer.{Answer}
+use Rattle.answers.specs.declared.Filled.{Filled}
+use Rattle.answers.specs.Requests.{judgeOf, Outcome, transitionOutcome, assignmentsOutcome, orderOf, transitionOf, assignmentsOf, Fills}
 use Rattle.nocturenc.specs.Packed.{packedAnswer, FillsPacked}
 
 same-by : {A : Type 0} {r r′ s : A} → r ≡ s → r′ ≡ s → r ≡ r′

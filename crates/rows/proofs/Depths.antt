@@ -11,9 +11,9 @@ use mathlib.Core.List.{List}
 use lib.Dec.{ltb}
 use borrow.Author.Tests.{ltb-true, lt-ltb, le-ltb}
 use Rattle.paper.proofs.Bools.{same-answer, pick}
-use Rattle.rows.specs.First.{first}
+use Rattle.entries.specs.First.{first}
 use Rattle.rows.specs.Rows.{endOf, keepsRules, roundOf, depthOf, isDeep, Nested}
-use Rattle.rows.proofs.First.{first-found, first-none, first-below, first-at, first-same}
+use Rattle.entries.proofs.First.{first-found, first-none, first-below, first-at, first-same}
 use Rattle.rows.proofs.Meets.{lt-or-le}
 use Rattle.rows.proofs.Rules.{root-ends}
 

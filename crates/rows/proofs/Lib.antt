@@ -1,4 +1,3 @@
-pub mod First
 pub mod Forms
 pub mod Meets
 pub mod Rules

@@ -5,7 +5,7 @@ use mathlib.Core.Bool.{Bool, false, cond, not, _&&_}
 use mathlib.Core.List.{List}
 use lib.ListN.{length, getD, drop}
 use lib.Dec.{ltb, leb, eqb}
-use Rattle.rows.specs.First.{first}
+use Rattle.entries.specs.Entries.{ascend}
 
 -- the words of row i
 abbrev pub kindOf : List ℕ → ℕ → ℕ
@@ -45,14 +45,6 @@ formOf k =
 unfoldable pub meets : List ℕ → ℕ → ℕ → ℕ → Bool
 meets rows stop at zero = eqb at stop
 meets rows stop at (suc m) = ltb at stop && (ltb at (endOf rows at) && (leb (endOf rows at) stop && meets rows stop (endOf rows at) m))
-
--- word k of a list is not above the one before
-abbrev pub falls : List ℕ → ℕ → Bool
-falls ws k = ltb 0 k && leb (getD ws k 0) (getD ws (k - 1) 0)
-
--- the first m words of a list are there, and strictly ascend
-unfoldable pub ascend : List ℕ → ℕ → Bool
-ascend ws m = leb m (length ws) && eqb (first (falls ws) m) m
 
 -- the reads that a row of a form takes: a star as many as its arg says, any other none
 abbrev pub takes : Form → ℕ → ℕ

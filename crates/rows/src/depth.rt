@@ -1,7 +1,7 @@
 // How deep rows lie: refusal 8. Nested rows are walked by recursion, the depth still allowed falling each time.
 ghost use mathlib.Core.Path.{_≡_};
 ghost use Prim.Native.Nat.{_+_, _-_, _<_};
-ghost use Rattle.rows.specs.First.{first};
+ghost use Rattle.entries.specs.First.{first};
 ghost use Rattle.rows.specs.Rows.{Nested, endOf, depthOf, isDeep};
 use crate::end_of;
 use paper::Label;

@@ -4,21 +4,16 @@ ghost use mathlib.Core.Path.{_≡_};
 ghost use Prim.Native.Nat.{_+_, _*_, _≤_, _<_};
 ghost use lib.ListN.{length, drop};
 ghost use Rattle.paper.specs.Formula.{ℓ};
-ghost use Rattle.rows.specs.First.{first};
-ghost use Rattle.rows.specs.Rows.{kindOf, argOf, endOf, fromOf, formOf, meets, falls, ascend, takes, takenBefore, guarded, falseRule, starRule, candidateRule, joinRule, boundRule, endsWithin, keepsRules, breaksRules, InRows};
+ghost use Rattle.entries.specs.First.{first};
+ghost use Rattle.rows.specs.Rows.{kindOf, argOf, endOf, fromOf, formOf, meets, takes, takenBefore, guarded, falseRule, starRule, candidateRule, joinRule, boundRule, endsWithin, keepsRules, breaksRules, InRows};
 
 pub mod depth; // how deep rows lie: refusal 8
 pub mod walk; // the expressions under a row, for the walks of the layers above
 
+use entries::are_ascending;
+use entries::wide;
 use paper::Label;
 use paper::Variable;
-
-// A 16-bit number where a wider one is wanted.
-pub fn wide(x: u16) -> usize
-    ensures { λ r. ⌜ r ≡ x ⌝ }
-{
-    x as usize
-}
 
 // The kind word of a row.
 pub fn kind_of(rows: &[u16], at: Label) -> u16
@@ -54,31 +49,6 @@ pub fn from_of(rows: &[u16], at: Label) -> u16
 {
     let i = at.0 as usize;
     rows[4 * i + 3]
-}
-
-// The lowest of n words that is not above the one before, or n.
-pub fn first_fall(words: &[u16], n: usize) -> usize
-    requires { ⌜ n ≤ length (now words) ⌝ }
-    ensures { λ r. ⌜ r ≡ first (falls (now (words .entry))) n ⌝ }
-{
-    let mut k = 1;
-    while k < n {
-        if words[k] <= words[k - 1] {
-            return k;
-        }
-        k += 1;
-    }
-    n
-}
-
-// Whether the first m words are there, and strictly ascend.
-fn are_ascending(words: &[u16], m: usize) -> bool
-    ensures { λ r. ⌜ r ≡ ascend (now (words .entry)) m ⌝ }
-{
-    if words.len() < m {
-        return false;
-    }
-    first_fall(words, m) == m
 }
 
 // Whether m children from the row `at` on meet `stop`: each end rises, and none passes it.

@@ -29,10 +29,9 @@ use Rattle.paper.proofs.Numbers.{numbers-say}
 use Rattle.table.specs.declared.Layout.{Layout}
 use Rattle.table.specs.declared.Refusal.{Refusal}
 use Rattle.table.specs.declared.Checked.the-variants.{Sound, Refused}
-use Rattle.rows.specs.First.{first}
-use Rattle.table.specs.Sections.{layout, checked}
+use Rattle.entries.specs.First.{first}
+use Rattle.table.specs.Sections.{layout, checked, rowsIn, readsIn, chosenIn}
 use Rattle.written.specs.Tables.{formulaIn}
-use Rattle.table.specs.Sections.{rowsIn, readsIn, chosenIn}
 use Rattle.written.proofs.Tables.{understood}
 use Rattle.counting.specs.declared.Covering.the-variants.{Missed, Doubled}
 use Rattle.counting.specs.declared.Covering.the-variants as Covering

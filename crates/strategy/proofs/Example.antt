@@ -2,9 +2,8 @@
 use mathlib.Core.Path.{_≡_, refl, ap}
 use Rattle.table.specs.declared.Layout.{Layout}
 use Rattle.rows.specs.Rows.{formOf}
-use Rattle.table.specs.Sections.{layout}
+use Rattle.table.specs.Sections.{layout, rowsIn, readsIn, chosenIn}
 use Rattle.rows.specs.Formula.{starAt, childrenAt, nodeAt, formulaAt}
-use Rattle.table.specs.Sections.{rowsIn, readsIn, chosenIn}
 use Rattle.written.specs.Example.{wordsOfP}
 use Rattle.written.proofs.Example.{P-is-sound}
 use Rattle.strategy.specs.Judge.{acceptedWith, judgedAs, judgedOf, Parts, Covered}

@@ -13,11 +13,10 @@ use Rattle.paper.proofs.Labels.{mem-has}
 use Rattle.table.specs.declared.Layout.{Layout}
 use Rattle.table.specs.declared.Checked.the-variants.{Sound}
 use Rattle.rows.specs.Rows.{kindOf, argOf, fromOf, Form, aFALSE, aStar, aCandidate, aConjunction, aDisjunction, anExists, anIF, noForm, formOf}
-use Rattle.table.specs.Sections.{checked}
+use Rattle.table.specs.Sections.{checked, rowsIn, readsIn, chosenIn}
 use Rattle.rows.specs.Formula.{formulaAt}
 use Rattle.rows.specs.Walk.{Walkable}
 use Rattle.written.specs.Written.{size, Ascend}
-use Rattle.table.specs.Sections.{rowsIn, readsIn, chosenIn}
 use Rattle.written.proofs.Words.{of-rising}
 use Rattle.written.proofs.Writes.{Writes}
 use Rattle.written.proofs.WritesRead.{formula-read}
@@ -32,7 +31,7 @@ use Rattle.counting.specs.Marks.{AllBelow}
 use Rattle.net.specs.Net.{Chosen, Net}
 use Rattle.net.proofs.Sound.{chosen-of}
 use Rattle.net.proofs.Spans.{labels-count, labels-between}
-use Rattle.ordering.specs.Prior.{Ready}
+use Rattle.fingers.specs.Ready.{Ready}
 use Rattle.strategy.specs.Judge.{Parts}
 
 pub parts-of : (words : List ℕ) (l : Layout) → checked words ≡ Sound l

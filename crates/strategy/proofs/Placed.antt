@@ -24,7 +24,8 @@ use Rattle.rows.specs.Rows.{kindOf}
 use Rattle.rows.proofs.Meets.{lt-or-le}
 use Rattle.net.specs.Net.{Chosen, Net}
 use Rattle.net.proofs.PriorIsBefore.{order-by-rows, cycle-by-rows}
-use Rattle.ordering.specs.Prior.{Ready, ordered, isCyclic, lowestCyclic, labelled, written, Filled}
+use Rattle.ordering.specs.Prior.{ordered, isCyclic, lowestCyclic, labelled, written, Filled}
+use Rattle.fingers.specs.Ready.{Ready}
 use Rattle.strategy.specs.Judge.{Parts, Covered, formulaOf, proposalOf, orderOf, judgeOrder, judgeCount}
 use Rattle.strategy.proofs.Held.{parts-write, rows-are, ascend-all, chosen-rows, ready}
 use Rattle.strategy.proofs.Strangers.{offender, none-offends, kinds-of}

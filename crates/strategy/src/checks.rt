@@ -4,7 +4,7 @@ ghost use Prim.Native.Nat.{ℕ, _+_, _*_, _≤_, _<_};
 ghost use mathlib.Core.List.{map};
 ghost use lib.ListN.{length, getD};
 ghost use Rattle.paper.specs.Formula.{ℓ};
-ghost use Rattle.rows.specs.First.{first};
+ghost use Rattle.entries.specs.First.{first};
 ghost use Rattle.rows.specs.Walk.{Walkable};
 ghost use Rattle.counting.specs.Marks.{Marked};
 ghost use Rattle.counting.specs.Keys.{total, keysAt};

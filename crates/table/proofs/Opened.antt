@@ -11,9 +11,9 @@ use Rattle.table.specs.declared.Refusal.{Refusal}
 use Rattle.table.specs.declared.Cursor.{Cursor}
 use Rattle.table.specs.declared.Step.{Step}
 use Rattle.table.specs.declared.Step.the-variants.{Next, Halt}
-use Rattle.rows.specs.First.{first}
+use Rattle.entries.specs.First.{first}
 use Rattle.table.specs.Sections.{andThen, unless, openAt}
-use Rattle.rows.proofs.First.{first-le, neither}
+use Rattle.entries.proofs.First.{first-le, neither}
 use Rattle.rows.proofs.Rules.{rest}
 
 -- a test that did not refuse

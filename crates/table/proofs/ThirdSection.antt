@@ -10,10 +10,10 @@ use borrow.Author.Tests.{lt-ltb, le-ltb, not-false}
 use lib.ListN.{length, getD, drop}
 use Rattle.table.specs.declared.Cursor.{Cursor}
 use Rattle.table.specs.declared.Step.the-variants.{Next}
-use Rattle.rows.specs.First.{first}
+use Rattle.entries.specs.First.{first}
 use Rattle.rows.specs.Rows.{kindOf, argOf, takenBefore, keepsRules, breaksRules, depthOf, isDeep, Nested}
 use Rattle.table.specs.Sections.{halt, openAt, rowsAt}
-use Rattle.rows.proofs.First.{first-le, first-all}
+use Rattle.entries.proofs.First.{first-le, first-all}
 use Rattle.rows.proofs.Taken.{takes-le, taken-there}
 use Rattle.rows.proofs.Nested.{nested}
 use Rattle.rows.proofs.Depths.{top-depth}

@@ -8,8 +8,9 @@ use mathlib.Core.List.{List, [], _∷_}
 use lib.ListN.{getD, replicate}
 use Rattle.paper.specs.Formula.{ℓ, has}
 use Rattle.paper.specs.Structure.Kept.{keptAt}
-use Rattle.rows.specs.First.{first}
-use Rattle.rows.specs.Rows.{formOf, meets, ascend, takenBefore, falseRule, starRule, candidateRule, joinRule, boundRule, endsWithin, keepsRules}
+use Rattle.entries.specs.First.{first}
+use Rattle.rows.specs.Rows.{formOf, meets, takenBefore, falseRule, starRule, candidateRule, joinRule, boundRule, endsWithin, keepsRules}
+use Rattle.entries.specs.Entries.{ascend}
 use Rattle.rows.specs.Formula.{starAt, childrenAt, nodeAt, formulaAt}
 use Rattle.rows.specs.Walk.{valueAt}
 use Rattle.written.specs.Example.{P}

@@ -6,14 +6,14 @@ use mathlib.Core.Path.{_≡_, refl, subst}
 use mathlib.Core.List.{List}
 use Rattle.table.specs.declared.Layout.{Layout}
 use Rattle.table.specs.declared.Checked.the-variants.{Sound}
-use Rattle.rows.specs.First.{first}
-use Rattle.rows.specs.Rows.{formOf, meets, ascend, takenBefore, falseRule, starRule, candidateRule, joinRule, boundRule, endsWithin, keepsRules, roundOf, depthOf, InRows, Nested}
-use Rattle.table.specs.Sections.{openAt, variablesAt, readsAt, rowsAt, strategyAt, endAt, sections, checked, layout}
+use Rattle.entries.specs.First.{first}
+use Rattle.rows.specs.Rows.{formOf, meets, takenBefore, falseRule, starRule, candidateRule, joinRule, boundRule, endsWithin, keepsRules, roundOf, depthOf, InRows, Nested}
+use Rattle.entries.specs.Entries.{ascend}
+use Rattle.table.specs.Sections.{openAt, variablesAt, readsAt, rowsAt, strategyAt, endAt, sections, checked, layout, rowsIn}
 use Rattle.rows.specs.Formula.{starAt, childrenAt, nodeAt, formulaAt}
 use Rattle.rows.specs.Walk.{Walkable}
 use Rattle.written.specs.Written.{written, Within}
 use Rattle.written.specs.Tables.{tableIn, Understood}
-use Rattle.table.specs.Sections.{rowsIn}
 use Rattle.written.specs.Example.{wordsOfP, tableOfP}
 use Rattle.written.proofs.Tables.{understood}
 

@@ -9,11 +9,10 @@ use lib.ListN.{length, getD, length-append, length-map}
 use Rattle.paper.specs.Formula.{ℓ, Star, stars}
 use Rattle.table.specs.declared.Layout.{Layout}
 use Rattle.table.specs.declared.Checked.the-variants.{Sound}
-use Rattle.table.specs.Sections.{checked}
+use Rattle.table.specs.Sections.{checked, readsIn, rowsIn}
 use Rattle.written.specs.Written.{Table, readWords, readsFrom, takenReads, size, rowsFrom, section, written, Within}
 use Rattle.written.specs.Tables.{tableIn, layoutOf, SoundExactly, OneTable, WrittenOnce, Understood}
-use Rattle.table.specs.Sections.{readsIn, rowsIn}
-use Rattle.rows.proofs.First.{of-neither}
+use Rattle.entries.proofs.First.{of-neither}
 use Rattle.written.proofs.Stands.{Stands, stands-whole, stands-there, stands-front, stands-back, entry-at}
 use Rattle.written.proofs.Words.{map-back, Each, each-none, each-append, each-map, none-falls, none-beyond}
 use Rattle.written.proofs.Writes.{Writes}

@@ -11,14 +11,14 @@ use Rattle.paper.specs.Formula.{ℓ, Formula, labels, Rising, WellFormed}
 use Rattle.paper.proofs.Lists.{of-any}
 use Rattle.paper.proofs.Labels.{alike-eq}
 use Rattle.table.specs.declared.Layout.{Layout}
-use Rattle.rows.specs.First.{first}
-use Rattle.rows.specs.Rows.{takenBefore, keepsRules, isDeep, falls}
-use Rattle.table.specs.Sections.{beyond}
+use Rattle.entries.specs.First.{first}
+use Rattle.rows.specs.Rows.{takenBefore, keepsRules, isDeep}
+use Rattle.entries.specs.Entries.{falls, beyond}
 use Rattle.rows.specs.Formula.{formulaAt}
 use Rattle.written.specs.Written.{takenReads, size, rowsFrom, written, depth, labelsOn, Within}
 use Rattle.written.specs.Tables.{formulaIn, tableIn, layoutOf, Understood}
 use Rattle.table.specs.Sections.{namesIn, readsIn, rowsIn, chosenIn}
-use Rattle.rows.proofs.First.{to-neither}
+use Rattle.entries.proofs.First.{to-neither}
 use Rattle.written.proofs.Words.{map-back, Each, each-map, word-mem, of-rising, to-ascend, to-below}
 use Rattle.written.proofs.Writes.{Writes}
 use Rattle.written.proofs.WrittenRows.{length-rows}

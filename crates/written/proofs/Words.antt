@@ -12,11 +12,10 @@ use borrow.Author.Tests.{leb-false, lt-leb, lt-ltb}
 use Rattle.paper.specs.Formula.{ℓ, Rising}
 use Rattle.paper.proofs.Bools.{pick}
 use Rattle.paper.proofs.Lists.{of-map}
-use Rattle.rows.specs.First.{first}
-use Rattle.rows.specs.Rows.{falls}
-use Rattle.table.specs.Sections.{beyond}
+use Rattle.entries.specs.First.{first}
+use Rattle.entries.specs.Entries.{falls, beyond}
 use Rattle.written.specs.Written.{Ascend}
-use Rattle.rows.proofs.First.{first-none, first-all}
+use Rattle.entries.proofs.First.{first-none, first-all}
 use Rattle.written.proofs.Stands.{Stands, stands-room}
 
 -- mapped forth and back

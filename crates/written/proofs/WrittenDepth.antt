@@ -11,10 +11,10 @@ use lib.ListN.{length, length-append}
 use borrow.Author.Tests.{ltb-false, le-ltb}
 use Rattle.paper.proofs.Bools.{pick}
 use Rattle.paper.specs.Formula.{Star, Formula, Formulas, FALSE, test, candidate, conjunction, disjunction, exists, IF, only, _⨾_, labels, labelsOf}
-use Rattle.rows.specs.First.{first}
+use Rattle.entries.specs.First.{first}
 use Rattle.rows.specs.Rows.{endOf, roundOf, depthOf, isDeep}
 use Rattle.written.specs.Written.{takenReads, size, depth, depthOfAll}
-use Rattle.rows.proofs.First.{first-none, first-all}
+use Rattle.entries.proofs.First.{first-none, first-all}
 use Rattle.rows.proofs.Meets.{lt-or-le}
 use Rattle.rows.proofs.Depths.{round-in, rounds-out}
 use Rattle.written.proofs.Writes.{StarIs, Writes, WritesAll}

@@ -8,7 +8,7 @@ use borrow.Author.Needs.{needs}
 use borrow.Author.Count.{below-more}
 use borrow.Author.Tests.{not-false}
 use Rattle.rows.specs.Rows.{takenBefore, breaksRules}
-use Rattle.rows.proofs.First.{first-found, first-none}
+use Rattle.entries.proofs.First.{first-found, first-none}
 use Rattle.rows.proofs.Taken.{taken-more, takes-there}
 use Rattle.rows.proofs.first_broken.Statement.{statement}
 use Rattle.rows.proofs.first_broken.Tie as tie

@@ -9,7 +9,7 @@ use lib.ListN.{length, take, drop}
 use lib.Seq.{getD-drop}
 use denote.Ref.{now}
 use Rattle.table.specs.declared.Step.the-variants.{Next}
-use Rattle.rows.specs.First.{first}
+use Rattle.entries.specs.First.{first}
 use Rattle.rows.specs.Rows.{takenBefore, keepsRules, breaksRules, isDeep}
 use Rattle.table.specs.Sections.{halt, openAt, rowsAt}
 use Rattle.rows.proofs.Rules.{rest}
