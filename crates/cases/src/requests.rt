@@ -3,7 +3,7 @@ use crate::heading::Heading;
 use crate::lent;
 use crate::scan::is_word;
 use crate::write;
-use nocturenc::Answer;
+use answers::Answer;
 use table::Checked;
 
 pub enum Request {

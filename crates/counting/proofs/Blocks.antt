@@ -10,8 +10,8 @@ use lib.Dec.{ltb, leb·suc-suc}
 use lib.Bits.{bitXor}
 use borrow.Author.Tests.{lt-ltb, le-ltb}
 use Rattle.paper.specs.Formula.{𝓋}
-use Rattle.table.specs.First.{first}
-use Rattle.table.proofs.First.{first-le, first-same}
+use Rattle.entries.specs.First.{first}
+use Rattle.entries.proofs.First.{first-le, first-same}
 use Rattle.counting.specs.declared.Words.{Words}
 use Rattle.counting.specs.declared.Covering.the-variants.{Missed, Doubled, Covered}
 use Rattle.counting.specs.Words.{allBits, wordsAt, bitAt, isMissed, isDoubled, coveringOf, further}

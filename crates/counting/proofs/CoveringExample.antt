@@ -6,11 +6,11 @@ use mathlib.Core.Bool.{true, false}
 use mathlib.Core.List.{List, [], _∷_}
 use lib.ListN.{drop}
 use Rattle.paper.specs.Formula.{𝓋}
-use Rattle.table.specs.First.{first}
-use Rattle.table.specs.Rows.{formOf}
-use Rattle.table.specs.Formula.{starAt, childrenAt, nodeAt, formulaAt}
-use Rattle.table.specs.Walk.{valueAt}
-use Rattle.table.specs.Example.{wordsOfP}
+use Rattle.entries.specs.First.{first}
+use Rattle.rows.specs.Rows.{formOf}
+use Rattle.rows.specs.Formula.{starAt, childrenAt, nodeAt, formulaAt}
+use Rattle.rows.specs.Walk.{valueAt}
+use Rattle.written.specs.Example.{wordsOfP}
 use Rattle.counting.specs.declared.Covering.the-variants.{Missed, Doubled, Covered}
 use Rattle.counting.specs.Marks.{isMarked}
 use Rattle.counting.specs.Words.{unitWords, joinWords, maskOf, bitAt, isMissed, isDoubled, coveringOf}

@@ -25,10 +25,10 @@ use Rattle.paper.proofs.Lists.{those-append, to-those, of-those}
 use Rattle.paper.proofs.Variables.{to-variables}
 use Rattle.paper.proofs.Readings.{leaves-map, carried}
 use Rattle.paper.proofs.Cover.{counts-say}
-use Rattle.table.specs.First.{first}
-use Rattle.table.specs.Formula.{formulaAt}
-use Rattle.table.proofs.First.{first-found, first-none, first-below, first-at, first-all, first-same}
-use Rattle.table.proofs.Walks.{value-read}
+use Rattle.entries.specs.First.{first}
+use Rattle.rows.specs.Formula.{formulaAt}
+use Rattle.entries.proofs.First.{first-found, first-none, first-below, first-at, first-all, first-same}
+use Rattle.rows.proofs.Walks.{value-read}
 use Rattle.counting.specs.declared.Words.{Words}
 use Rattle.counting.specs.declared.Covering.the-variants.{Missed, Doubled, Covered}
 use Rattle.counting.specs.Marks.{isMarked, Marked}

@@ -16,10 +16,10 @@ use Rattle.paper.specs.Structure.Reading.{Reading}
 use Rattle.paper.specs.Structure.KeyCount.{KeyCount, number, leafKeys as leafCount, unitKeys as unitCount, joinKeys as joinCounts, keyReading, keyCountOf, numberOf}
 use Rattle.paper.proofs.Readings.{carried, carried-everywhere}
 use Rattle.paper.proofs.Bools.{pick}
-use Rattle.table.specs.Formula.{formulaAt}
-use Rattle.table.specs.Walk.{Walkable, skeletonAt, valueAt}
-use Rattle.table.proofs.Meets.{lt-or-le}
-use Rattle.table.proofs.Walks.{value-read}
+use Rattle.rows.specs.Formula.{formulaAt}
+use Rattle.rows.specs.Walk.{Walkable, skeletonAt, valueAt}
+use Rattle.rows.proofs.Meets.{lt-or-le}
+use Rattle.rows.proofs.Walks.{value-read}
 use Rattle.counting.specs.declared.Distinct.{Distinct}
 use Rattle.counting.specs.Marks.{isMarked, Marked}
 use Rattle.counting.specs.Keys.{limit, keysOf, total, leafKeys, joinKeys, keysReading, keysAt}

@@ -11,9 +11,9 @@ use lib.Dec.{eqb}
 use borrow.Author.Tests.{eq-eqb, ne-eqb}
 use Rattle.paper.specs.Structure.KeyCount.{KeyCount, number, unitKeys as unitCount, joinKeys as joinCounts}
 use Rattle.paper.proofs.Numbers.{number-of-both, number-of-either, joinKeys-unit}
-use Rattle.table.specs.Rows.{kindOf, endOf, formOf}
-use Rattle.table.specs.Walk.{expressionsAt, firstAt, Walkable, joinedFrom}
-use Rattle.table.proofs.Walks.{value-join}
+use Rattle.rows.specs.Rows.{kindOf, endOf, formOf}
+use Rattle.rows.specs.Walk.{expressionsAt, firstAt, Walkable, joinedFrom}
+use Rattle.rows.proofs.Walks.{value-join}
 use Rattle.counting.specs.Keys.{total, keysAt}
 use Rattle.counting.proofs.KeyNumbers.{held-within, held-exact, countReading, countAt, keys-held}
 

@@ -7,11 +7,11 @@ use mathlib.Core.List.{List}
 use Rattle.paper.specs.declared.Label.{Label}
 use Rattle.paper.specs.Formula.{ℓ, Formula}
 use Rattle.paper.proofs.Readings.{AtLeaves, AtLeavesOf}
-use Rattle.table.specs.Rows.{kindOf, argOf, endOf, formOf}
-use Rattle.table.specs.Formula.{starAt, childrenAt, nodeAt, formulaAt}
-use Rattle.table.specs.Walk.{expressions, firstUnder, Walkable}
-use Rattle.table.proofs.Forms.{by-form}
-use Rattle.table.proofs.Walks.{Along, along-under, along-on, along-next}
+use Rattle.rows.specs.Rows.{kindOf, argOf, endOf, formOf}
+use Rattle.rows.specs.Formula.{starAt, childrenAt, nodeAt, formulaAt}
+use Rattle.rows.specs.Walk.{expressions, firstUnder, Walkable}
+use Rattle.rows.proofs.Forms.{by-form}
+use Rattle.rows.proofs.Walks.{Along, along-under, along-on, along-next}
 
 module _ (rows reads : List ℕ) {#N : ℕ} (P : Label → Type 0) (each : (l : ℕ) → l < #N → P (ℓ l)) where
   abbrev Leaves : Formula → Type 0

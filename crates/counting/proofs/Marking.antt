@@ -15,7 +15,7 @@ use Rattle.paper.specs.Formula.{ℓ, labels, labelsOf, Formula, Formulas, FALSE
 use Rattle.paper.proofs.Bools.{pick}
 use Rattle.paper.proofs.Lists.{any-append}
 use Rattle.paper.proofs.Readings.{AtLeaves, AtLeavesOf}
-use Rattle.table.specs.Written.{size, labelsOn}
+use Rattle.written.specs.Written.{size, labelsOn}
 use Rattle.counting.specs.Marks.{isMarked, Marked, AllBelow}
 
 pub marked-none : Marked [] (replicate 4096 0)

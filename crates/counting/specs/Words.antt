@@ -9,8 +9,8 @@ use Rattle.paper.specs.declared.Variable.{Variable}
 use Rattle.paper.specs.Formula.{𝓋}
 use Rattle.paper.specs.Judgement.{Judgement, refused}
 use Rattle.paper.specs.Structure.Reading.{Reading}
-use Rattle.table.specs.First.{first}
-use Rattle.table.specs.Walk.{valueAt}
+use Rattle.entries.specs.First.{first}
+use Rattle.rows.specs.Walk.{valueAt}
 use Rattle.counting.specs.declared.Words.{Words}
 use Rattle.counting.specs.declared.Covering.{Covering}
 use Rattle.counting.specs.declared.Covering.the-variants.{Missed, Doubled, Covered}

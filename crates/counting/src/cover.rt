@@ -1,19 +1,19 @@
 // Chosen labels of each variable on the branches, 64 variables at a time: refusals 11 and 12.
 ghost use mathlib.Core.Path.{_≡_};
 ghost use Prim.Native.Nat.{_+_, _≤_, _<_, min};
-ghost use Rattle.table.specs.First.{first};
-ghost use Rattle.table.specs.Walk.{Walkable};
+ghost use Rattle.entries.specs.First.{first};
+ghost use Rattle.rows.specs.Walk.{Walkable};
 ghost use Rattle.counting.specs.Words.{unitWords, joinWords, leafWords, maskOf, wordsAt, bitAt, further, coveringOf};
 use crate::Covering;
 use crate::Words;
 use crate::marks::is_marked;
 use paper::Label;
 use paper::Variable;
-use table::rows::arg_of;
-use table::rows::end_of;
-use table::rows::kind_of;
-use table::walk::expressions_of;
-use table::walk::first_of;
+use rows::arg_of;
+use rows::end_of;
+use rows::kind_of;
+use rows::walk::expressions_of;
+use rows::walk::first_of;
 
 // What a conjunction starts from, one branch with nothing on it, and any other join, no branch.
 fn unit_of(conj: bool) -> Words

@@ -2,16 +2,16 @@
 ghost use mathlib.Core.Path.{_≡_};
 ghost use mathlib.Core.Bool.{true, false};
 ghost use Prim.Native.Nat.{_≤_, _<_, min};
-ghost use Rattle.table.specs.Walk.{Walkable};
+ghost use Rattle.rows.specs.Walk.{Walkable};
 ghost use Rattle.counting.specs.Marks.{isMarked};
 ghost use Rattle.counting.specs.Keys.{limit, total, leafKeys, joinKeys, keysAt};
 use crate::Distinct;
 use crate::marks::is_marked;
 use paper::Label;
-use table::rows::end_of;
-use table::rows::kind_of;
-use table::walk::expressions_of;
-use table::walk::first_of;
+use rows::end_of;
+use rows::kind_of;
+use rows::walk::expressions_of;
+use rows::walk::first_of;
 
 // All keys, the empty one among them.
 pub fn total_of(k: Distinct) -> u64

@@ -12,10 +12,10 @@ use lib.ListN.{length, getD, take, set, length-set}
 use lib.Seq.{getD-set-same, getD-set-other, getD-take}
 use borrow.Author.Tests.{eq-eqb, ne-eqb, eqb-true, eqb-false}
 use Rattle.paper.proofs.Bools.{pick}
-use Rattle.table.specs.First.{first}
-use Rattle.table.specs.Rows.{argOf}
-use Rattle.table.proofs.First.{first-found, first-none, first-same}
-use Rattle.table.proofs.Meets.{lt-or-le}
+use Rattle.entries.specs.First.{first}
+use Rattle.rows.specs.Rows.{argOf}
+use Rattle.entries.proofs.First.{first-found, first-none, first-same}
+use Rattle.rows.proofs.Meets.{lt-or-le}
 use Rattle.net.specs.Net.{guardsFrom, nextsFrom, firstsFrom, netLength, Parents, Guards, Net, Only, ChainWord, firstWith}
 use Rattle.net.proofs.Notes.{parents-kept, guards-kept}
 

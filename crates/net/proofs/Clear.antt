@@ -10,9 +10,9 @@ use lib.Dec.{eqb, ltb}
 use lib.ListN.{getD}
 use borrow.Author.Tests.{eq-eqb, ne-eqb, lt-ltb, le-ltb, ltb-true}
 use Rattle.paper.proofs.Bools.{and-left, and-right, both, not-so, or-left, or-right, pick}
-use Rattle.table.specs.Rows.{kindOf, endOf}
-use Rattle.table.proofs.First.{first-found, first-none}
-use Rattle.table.proofs.Meets.{lt-or-le}
+use Rattle.rows.specs.Rows.{kindOf, endOf}
+use Rattle.entries.proofs.First.{first-found, first-none}
+use Rattle.rows.proofs.Meets.{lt-or-le}
 use Rattle.net.specs.Prior.{isUnder, overBoth, together}
 use Rattle.net.specs.Net.{Tree, Parents, Cleared, towards, clearTo}
 use Rattle.net.proofs.Last.{last-is}

@@ -10,8 +10,8 @@ use lib.ListN.{getD}
 use lib.Dec.{leb}
 use borrow.Author.Tests.{ltb-true, ltb-false, leb-true, lt-ltb, le-ltb, le-leb}
 use Rattle.paper.proofs.Bools.{and-left, and-right, both, pick}
-use Rattle.table.specs.Rows.{endOf}
-use Rattle.table.proofs.Meets.{lt-or-le}
+use Rattle.rows.specs.Rows.{endOf}
+use Rattle.rows.proofs.Meets.{lt-or-le}
 use Rattle.net.specs.Prior.{isUnder, parentOf}
 use Rattle.net.specs.Net.{Tree}
 use Rattle.net.proofs.Last.{last-is, last-of}

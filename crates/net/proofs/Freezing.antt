@@ -18,9 +18,9 @@ use Rattle.paper.specs.Frozen.{Site, site, sitesUnder, sitesOf, readBy, frozen}
 use Rattle.paper.proofs.Bools.{pick}
 use Rattle.paper.proofs.Lists.{any-append}
 use Rattle.paper.proofs.Frozen.{frozen-at-site}
-use Rattle.table.specs.Rows.{endOf}
-use Rattle.table.specs.Written.{size}
-use Rattle.table.proofs.Writes.{RowIs, StarIs, Writes, WritesAll}
+use Rattle.rows.specs.Rows.{endOf}
+use Rattle.written.specs.Written.{size}
+use Rattle.written.proofs.Writes.{RowIs, StarIs, Writes, WritesAll}
 use Rattle.net.specs.Prior.{upTo, isGuarded, starReads, isFrozen}
 use Rattle.net.proofs.UpTo.{any-next, any-past, any-map}
 use Rattle.net.proofs.Spans.{rises, ends-inside, Among, past-row, past-star, no-candidate, own-row, either-part}

@@ -10,8 +10,8 @@ use mathlib.Core.List.{List}
 use lib.Dec.{ltb}
 use borrow.Author.Tests.{ltb-true, lt-ltb, le-ltb}
 use Rattle.paper.proofs.Bools.{pick, same-answer}
-use Rattle.table.specs.Rows.{kindOf, endOf}
-use Rattle.table.proofs.Meets.{lt-or-le}
+use Rattle.rows.specs.Rows.{kindOf, endOf}
+use Rattle.rows.proofs.Meets.{lt-or-le}
 use Rattle.net.specs.Prior.{isGuarded, guardOf}
 use Rattle.net.specs.Net.{Tree}
 use Rattle.net.proofs.Last.{after-is, after-more, after-same}

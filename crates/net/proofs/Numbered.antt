@@ -15,7 +15,7 @@ use Rattle.paper.specs.Formula.{ℓ, same}
 use Rattle.paper.specs.Order.{isReady, greedyBy, leads, onCycle, order}
 use Rattle.paper.proofs.Bools.{pick}
 use Rattle.paper.proofs.Lists.{any-same, of-those}
-use Rattle.table.proofs.Meets.{lt-or-le}
+use Rattle.rows.proofs.Meets.{lt-or-le}
 use Rattle.net.specs.Prior.{upTo}
 use Rattle.net.proofs.UpTo.{length-upTo, below-of, any-map, those-map}
 

@@ -9,7 +9,7 @@ use Rattle.paper.specs.Formula.{ℓ}
 use Rattle.paper.specs.Outcome.{OneAnswer}
 use Rattle.paper.proofs.Bools.{pick}
 use Rattle.paper.proofs.Outcome.{by-equation, by-entries}
-use Rattle.table.proofs.Meets.{lt-or-le}
+use Rattle.rows.proofs.Meets.{lt-or-le}
 use Rattle.net.specs.Net.{guardsFrom, nextsFrom, firstsFrom, netLength, Chosen, Noted, ParentWord, GuardWord, ChainWord, Cleared, clearTo}
 
 module _ (net : List ℕ) where

@@ -15,9 +15,9 @@ use Rattle.paper.specs.Order.{greedyBy, onCycle, order}
 use Rattle.paper.proofs.Bools.{both, and-left, and-right, same-answer}
 use Rattle.paper.proofs.Lists.{to-any, of-any}
 use Rattle.paper.proofs.Labels.{same-refl, same-eq, mem-has, known-candidate}
-use Rattle.table.specs.Rows.{kindOf, argOf}
-use Rattle.table.specs.Written.{size}
-use Rattle.table.proofs.Writes.{Writes}
+use Rattle.rows.specs.Rows.{kindOf, argOf}
+use Rattle.written.specs.Written.{size}
+use Rattle.written.proofs.Writes.{Writes}
 use Rattle.net.specs.Prior.{upTo, labelOf, prior}
 use Rattle.net.proofs.Spans.{rises, Among, candidateAt, candidate-listed}
 use Rattle.net.proofs.Sharing.{sharing-is-together}

@@ -22,10 +22,10 @@ use Rattle.paper.proofs.Lists.{to-any, of-any, of-all}
 use Rattle.paper.proofs.Labels.{sub-has, branch-sub, each-sub, any-sub}
 use Rattle.paper.proofs.Share.{some-holds, sharing-says}
 use Rattle.paper.proofs.Numbers.{a-branch}
-use Rattle.table.specs.Rows.{kindOf, endOf}
-use Rattle.table.specs.Written.{size, labelsOn}
-use Rattle.table.proofs.Meets.{lt-or-le}
-use Rattle.table.proofs.Writes.{RowIs, StarIs, Writes, WritesAll}
+use Rattle.rows.specs.Rows.{kindOf, endOf}
+use Rattle.written.specs.Written.{size, labelsOn}
+use Rattle.rows.proofs.Meets.{lt-or-le}
+use Rattle.written.proofs.Writes.{RowIs, StarIs, Writes, WritesAll}
 use Rattle.net.specs.Prior.{isUnder, overBoth, together}
 use Rattle.net.proofs.UpTo.{last-is}
 use Rattle.net.proofs.Spans.{labels-between, labels-count, labels-count-all, ends-inside, Among, past-row, past-star, no-candidate, own-row, either-part}

@@ -9,10 +9,10 @@ use lib.ListN.{length, getD}
 use lib.Dec.{eqb, ltb}
 use borrow.Author.Tests.{eqb-true, eqb-false, ltb-true}
 use Rattle.paper.proofs.Bools.{and-left, and-right, pick}
-use Rattle.table.specs.Rows.{kindOf, argOf, endOf, formOf, guarded, starRule, candidateRule, boundRule, keepsForm, endsWithin, keepsRules}
-use Rattle.table.proofs.Meets.{child, no-child, lt-or-le}
-use Rattle.table.proofs.Nested.{nested}
-use Rattle.table.proofs.Rules.{kept, no-form, root-ends}
+use Rattle.rows.specs.Rows.{kindOf, argOf, endOf, formOf, guarded, starRule, candidateRule, boundRule, keepsForm, endsWithin, keepsRules}
+use Rattle.rows.proofs.Meets.{child, no-child, lt-or-le}
+use Rattle.rows.proofs.Nested.{nested}
+use Rattle.rows.proofs.Rules.{kept, no-form, root-ends}
 use Rattle.net.specs.Net.{Tree, Chosen}
 
 module _ (rows reads : List ℕ) (#V #N : ℕ) (keep : (i : ℕ) → i < #N → keepsRules rows reads #V #N i ≡ true) (room : 4 * #N ≤ length rows)

@@ -14,11 +14,11 @@ use borrow.Author.Tests.{eqb-true, eqb-false}
 use Rattle.paper.specs.declared.Label.{Label}
 use Rattle.paper.specs.Formula.{ℓ, 𝓋, same, has, Candidate, labels, labelsOf, candidates, candidatesOf, Rising, Star, Formula, Formulas, FALSE, test, candidate, conjunction, disjunction, exists, IF, only, _⨾_}
 use Rattle.paper.proofs.Bools.{or-cases, pick}
-use Rattle.table.specs.Rows.{kindOf, argOf, endOf}
-use Rattle.table.specs.Written.{size, labelsOn}
-use Rattle.table.proofs.Meets.{lt-or-le}
-use Rattle.table.proofs.Writes.{RowIs, StarIs, Writes, WritesAll}
-use Rattle.table.proofs.WritesRead.{end-is-behind}
+use Rattle.rows.specs.Rows.{kindOf, argOf, endOf}
+use Rattle.written.specs.Written.{size, labelsOn}
+use Rattle.rows.proofs.Meets.{lt-or-le}
+use Rattle.written.proofs.Writes.{RowIs, StarIs, Writes, WritesAll}
+use Rattle.written.proofs.WritesRead.{end-is-behind}
 
 -- labels that count up from i: they rise, lie from i on, and come in two parts
 labels-rise : (i n : ℕ) → Rising i (labelsOn i n)

@@ -9,8 +9,8 @@ use mathlib.Core.Path.{_≡_}
 use mathlib.Core.List.{List}
 use lib.Dec.{eqb, ltb}
 use lib.ListN.{length, getD}
-use Rattle.table.specs.First.{first}
-use Rattle.table.specs.Rows.{kindOf, argOf, endOf, Nested}
+use Rattle.entries.specs.First.{first}
+use Rattle.rows.specs.Rows.{kindOf, argOf, endOf, Nested}
 use Rattle.net.specs.Prior.{isUnder, parentOf, guardOf, overBoth, together}
 
 -- where each part begins, and the whole length

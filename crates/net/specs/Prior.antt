@@ -6,7 +6,7 @@ use mathlib.Core.List.{List, [], _∷_, _++_}
 use lib.Dec.{eqb, ltb, leb}
 use lib.ListN.{getD, take, drop}
 use Rattle.paper.specs.Lists.{anyOf}
-use Rattle.table.specs.Rows.{kindOf, argOf, endOf, fromOf}
+use Rattle.rows.specs.Rows.{kindOf, argOf, endOf, fromOf}
 
 -- the numbers 0 to n - 1
 abbrev pub upTo : ℕ → List ℕ

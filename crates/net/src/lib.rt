@@ -3,15 +3,15 @@ ghost use mathlib.Core.Path.{_≡_};
 ghost use Prim.Native.Nat.{ℕ, _+_, _*_, _≤_, _<_};
 ghost use lib.ListN.{length, getD, take};
 ghost use Rattle.paper.specs.Formula.{ℓ};
-ghost use Rattle.table.specs.Rows.{kindOf};
+ghost use Rattle.rows.specs.Rows.{kindOf};
 ghost use Rattle.net.specs.Prior.{isUnder, parentOf, guardOf};
 ghost use Rattle.net.specs.Net.{Tree, Chosen, Parents, Guards, Net, Noted, Cleared, Only, ParentWord, GuardWord, ChainWord, guardsFrom, nextsFrom, firstsFrom, netLength};
+use entries::wide;
 use paper::Label;
 use paper::Variable;
-use table::rows::arg_of;
-use table::rows::end_of;
-use table::rows::kind_of;
-use table::rows::wide;
+use rows::arg_of;
+use rows::end_of;
+use rows::kind_of;
 
 // The row over a row.
 fn parent_of(net: &[u16; 11264], at: Label) -> Label

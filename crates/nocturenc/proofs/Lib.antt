@@ -1,8 +1,2 @@
-pub mod Answers
-pub mod Accepted
-pub mod Copies
-pub mod Keeping
 pub mod Reading
 pub mod OneOutcome
-pub mod Demands
-pub mod Cases

@@ -6,7 +6,7 @@ use lib.ListN.{length}
 use Rattle.paper.specs.Outcome.{OneAnswer, OneOutcome}
 use Rattle.paper.proofs.Outcome.{by-equation}
 use Rattle.strategy.specs.declared.Accepted.{Accepted}
-use Rattle.nocturenc.specs.Requests.{judgeOf, Outcome, filledOf, after, transitionOutcome, assignmentsOutcome, orderOf, transitionOf, assignmentsOf, Fills}
+use Rattle.answers.specs.Requests.{judgeOf, Outcome, filledOf, after, transitionOutcome, assignmentsOutcome, orderOf, transitionOf, assignmentsOf, Fills}
 use Rattle.nocturenc.specs.Packed.{packedAnswer, packedFilled, FillsPacked}
 
 module _ (o : Outcome) (lent : List ℕ) where

@@ -2,8 +2,8 @@
 use Prim.Native.Nat.{ℕ, _<_, _^_}
 use native.Mathlib.Omega.{arith}
 use Rattle.table.specs.declared.Refusal.{Refusal}
-use Rattle.nocturenc.specs.declared.Counts.{Counts}
-use Rattle.nocturenc.specs.Requests.{FitCounts}
+use Rattle.answers.specs.declared.Counts.{Counts}
+use Rattle.answers.specs.Requests.{FitCounts}
 use Rattle.nocturenc.specs.Packed.{refusedAs, countsOf, ReadRefusal, ReadCounts}
 
 pub read-refusal : (r : Refusal) → r .number < 2 ^ 8 → r .place < 2 ^ 32 → ReadRefusal r (refusedAs (r .number) (r .place))

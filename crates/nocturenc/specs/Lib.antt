@@ -1,4 +1,1 @@
-pub mod Requests
 pub mod Packed
-pub mod Demands
-pub mod Cases

@@ -5,12 +5,12 @@ use Prim.Native.Nat.{ℕ, _+_, _*_, _/_, _%_, _^_}
 use mathlib.Core.List.{List}
 use mathlib.Core.Path.{_≡_}
 use Rattle.table.specs.declared.Refusal.{Refusal}
-use Rattle.nocturenc.specs.declared.Counts.{Counts}
-use Rattle.nocturenc.specs.declared.Answer.{Answer}
-use Rattle.nocturenc.specs.declared.Answer.the-variants as answer
-use Rattle.nocturenc.specs.declared.Filled.{Filled}
-use Rattle.nocturenc.specs.declared.Filled.the-variants as filled
-use Rattle.nocturenc.specs.Requests.{Outcome, filledOf, after}
+use Rattle.answers.specs.declared.Counts.{Counts}
+use Rattle.answers.specs.declared.Answer.{Answer}
+use Rattle.answers.specs.declared.Answer.the-variants as answer
+use Rattle.answers.specs.declared.Filled.{Filled}
+use Rattle.answers.specs.declared.Filled.the-variants as filled
+use Rattle.answers.specs.Requests.{Outcome, filledOf, after}
 
 abbrev pub refusedAs : ℕ → ℕ → ℕ
 refusedAs number place = number * 2 ^ 56 + place

@@ -1,15 +1,15 @@
 // The requests for C: the words, the lent slice and the number k come in, and each answer goes out packed in one number.
 ghost use mathlib.Core.Path.{_≡_};
 ghost use lib.ListN.{length};
-ghost use Rattle.nocturenc.specs.Requests.{judgeOf, FitCounts, orderOf, transitionOf, assignmentsOf};
+ghost use Rattle.answers.specs.Requests.{judgeOf, FitCounts, orderOf, transitionOf, assignmentsOf};
 ghost use Rattle.nocturenc.specs.Packed.{refusedAs, countsOf, packedAnswer, packedFilled, FillsPacked};
-use crate::Answer;
-use crate::Counts;
-use crate::Filled;
 use crate::requests::assignments;
 use crate::requests::judge;
 use crate::requests::order;
 use crate::requests::transition;
+use answers::Answer;
+use answers::Counts;
+use answers::Filled;
 use table::Refusal;
 
 // A refusal: its number in the top byte, its place in the low 32 bits.

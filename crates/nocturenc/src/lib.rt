@@ -1,32 +1,3 @@
 // The four requests of document 01 over any words: judge, order, transition k, assignments of transition k.
 pub mod requests; // the requests
-pub mod judged; // transitions and assignments, for a caller that has judged
-mod filling; // the lent slice and the answer of a request that fills
 pub mod exported; // the same for C, each answer packed in one number
-
-use table::Refusal;
-
-// What an accepted judgement counts: V, N, S and the transitions.
-pub struct Counts {
-    pub variables: usize,
-    pub rows: usize,
-    pub chosen: usize,
-    pub transitions: usize,
-}
-
-// The answer to a judge request.
-pub enum Answer {
-    Accepted(Counts),
-    Refused(Refusal),
-}
-
-// How many words or bytes a request filled.
-pub struct Length {
-    pub count: usize,
-}
-
-// The answer to a request that fills a lent slice.
-pub enum Filled {
-    Done(Length),
-    Refused(Refusal),
-}

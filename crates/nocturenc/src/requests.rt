@@ -1,13 +1,13 @@
 // The requests. Each judges the whole table first; a refusal writes nothing.
 ghost use mathlib.Core.Path.{_≡_};
 ghost use lib.ListN.{length};
-ghost use Rattle.nocturenc.specs.Requests.{judgeOf, orderOf, transitionOf, assignmentsOf, Fills};
-use crate::Answer;
-use crate::Counts;
-use crate::Filled;
-use crate::filling::fill_words;
-use crate::judged::assignments_of;
-use crate::judged::transition_of;
+ghost use Rattle.answers.specs.Requests.{judgeOf, orderOf, transitionOf, assignmentsOf, Fills};
+use answers::Answer;
+use answers::Counts;
+use answers::Filled;
+use answers::filling::fill_words;
+use answers::judged::assignments_of;
+use answers::judged::transition_of;
 use strategy::Judged;
 use strategy::judge_into;
 

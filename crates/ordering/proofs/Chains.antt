@@ -8,9 +8,9 @@ use mathlib.Core.List.{List, [], _∷_, List·Memᴰ, List·Memᴰ·head, List·
 use Rattle.paper.specs.Order.{leads}
 use Rattle.paper.proofs.Bools.{both, and-left, and-right, or-left, or-right, or-cases, pick}
 use Rattle.net.specs.Prior.{upTo}
-use Rattle.ordering.specs.Graph.{Graph}
+use Rattle.fingers.specs.Graph.{Graph}
 use Rattle.ordering.specs.Path.{ringed, Chain, here, step}
-use Rattle.ordering.proofs.Kept.{in-upTo, of-upTo}
+use Rattle.fingers.proofs.Kept.{in-upTo, of-upTo}
 
 module _ (R : ℕ → ℕ → Bool) where
   leads-step : (ks : List ℕ) (i j : ℕ) → R i j ≡ true → leads R ks i j ≡ true

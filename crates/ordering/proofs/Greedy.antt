@@ -16,10 +16,10 @@ use Rattle.paper.proofs.Bools.{and-left, and-right}
 use Rattle.paper.proofs.Lists.{those-le, those-lt, those-all, to-those}
 use Rattle.net.specs.Prior.{upTo}
 use Rattle.ordering.specs.Prior.{labelled, written}
-use Rattle.ordering.specs.Graph.{Graph, free, leftOf, slots, Started}
+use Rattle.fingers.specs.Graph.{Graph, free, leftOf, slots, Started}
 use Rattle.ordering.specs.Placing.{State, Lowest, rest, Placing}
-use Rattle.ordering.proofs.Tests.{by-eq, by-lt, never}
-use Rattle.ordering.proofs.Kept.{in-upTo, length-upTo, those-those, those-same, some-kept, none-some, none-kept, first-kept}
+use Rattle.fingers.proofs.Tests.{by-eq, by-lt, never}
+use Rattle.fingers.proofs.Kept.{in-upTo, length-upTo, those-those, those-same, some-kept, none-some, none-kept, first-kept}
 
 pub left-few : (n : ℕ) (mark : List ℕ) → 0 + length (leftOf n mark) ≤ n
 unfolding leftOf

@@ -8,15 +8,15 @@ use mathlib.Core.List.{List}
 use lib.ListN.{length, getD}
 use borrow.Author.Tests.{eq-eqb}
 use Rattle.paper.proofs.Bools.{not-so, same-answer}
-use Rattle.table.specs.Rows.{fromOf}
+use Rattle.rows.specs.Rows.{fromOf}
 use Rattle.net.specs.Prior.{isFrozen, together, prior, guardOf}
 use Rattle.net.specs.Net.{guardsFrom}
-use Rattle.ordering.specs.Prior.{Ready}
-use Rattle.ordering.specs.Places.{stopOf, readsAny, varOf, Place, pending, After}
-use Rattle.ordering.proofs.Tests.{by, by-lt, never}
-use Rattle.ordering.proofs.Guards.{the-guard}
-use Rattle.ordering.proofs.Onward.{Part, chained, readLater, readAround, parts, joins, some-star, stop-in, after-star, reads-none}
-use Rattle.ordering.proofs.Seeking.{own-in, own-star, from-in, all-frozen}
+use Rattle.fingers.specs.Ready.{Ready}
+use Rattle.fingers.specs.Places.{stopOf, readsAny, varOf, Place, pending, After}
+use Rattle.fingers.proofs.Tests.{by, by-lt, never}
+use Rattle.fingers.proofs.Guards.{the-guard}
+use Rattle.fingers.proofs.GoesOn.{Part, chained, readLater, readAround, parts, joins, some-star, stop-in, after-star, reads-none}
+use Rattle.fingers.proofs.Seeking.{own-in, own-star, from-in, all-frozen}
 
 -- a number is before itself where its own variable is frozen at it
 prior-itself : (rows reads chosen : List ℕ) (j : ℕ) → prior rows reads chosen j j ≡ isFrozen rows reads (getD chosen j 0) (varOf rows chosen j)

@@ -1,5 +1,3 @@
-pub mod Tests
-pub mod Kept
 pub mod Moves
 pub mod Greedy
 pub mod Chains
@@ -7,9 +5,5 @@ pub mod Walks
 pub mod Popped
 pub mod Steps
 pub mod Loops
-pub mod Guards
-pub mod Onward
-pub mod Seeking
-pub mod Looking
 pub mod Itself
 pub mod OneOutcome

@@ -10,9 +10,9 @@ use lib.Seq.{getD-set-same, getD-set-other}
 use borrow.Author.Count.{below-more}
 use borrow.Author.Tests.{ltb-true}
 use Rattle.paper.proofs.Bools.{and-left, and-right}
-use Rattle.ordering.specs.Graph.{Graph, Next, free}
+use Rattle.fingers.specs.Graph.{Graph, Next, free}
 use Rattle.ordering.specs.Placing.{Blocked, State, Lowered, Visited}
-use Rattle.ordering.proofs.Tests.{by, never, at-set}
+use Rattle.fingers.proofs.Tests.{by, never, at-set}
 
 module _ (g : Graph) (k : ℕ) (placed finger wait low : List ℕ) (s : State g k placed finger wait low) where
   -- one number more is blocked or placed

@@ -7,7 +7,7 @@ use lib.ListN.{length}
 use Rattle.paper.specs.Outcome.{OneAnswer, OneOutcome}
 use Rattle.paper.proofs.Bools.{pick}
 use Rattle.paper.proofs.Outcome.{by-equation}
-use Rattle.table.proofs.Meets.{lt-or-le}
+use Rattle.rows.proofs.Meets.{lt-or-le}
 use Rattle.ordering.specs.Prior.{ordered, lowestCyclic, labelled, written, Filled}
 
 module _ (rows reads chosen : List ℕ) where

@@ -9,10 +9,10 @@ use lib.Dec.{eqb}
 use lib.ListN.{length, getD}
 use borrow.Author.Tests.{ne-eqb}
 use Rattle.net.specs.Prior.{upTo}
-use Rattle.ordering.specs.Graph.{Graph, free, leftOf}
+use Rattle.fingers.specs.Graph.{Graph, free, leftOf}
 use Rattle.ordering.specs.Path.{ringed, Chain, here, step, Walked, Best, Grown, Finished, Counted}
-use Rattle.ordering.proofs.Tests.{by-eq, by-lt}
-use Rattle.ordering.proofs.Kept.{of-upTo, those-same}
+use Rattle.fingers.proofs.Tests.{by-eq, by-lt}
+use Rattle.fingers.proofs.Kept.{of-upTo, those-same}
 use Rattle.ordering.proofs.Chains.{ring-of, of-ring}
 use Rattle.ordering.proofs.Walks.{base, under-top}
 

@@ -9,11 +9,11 @@ use lib.ListN.{length, getD, set, replicate, length-replicate, getD-replicate}
 use lib.Seq.{getD-set-same}
 use borrow.Author.Tests.{ne-eqb, eqb-false}
 use Rattle.paper.proofs.Bools.{not-so}
-use Rattle.table.specs.First.{first}
-use Rattle.table.proofs.First.{first-found, first-none}
-use Rattle.ordering.specs.Graph.{Graph, Next, free, outside, leftOf, slots, Started}
+use Rattle.entries.specs.First.{first}
+use Rattle.entries.proofs.First.{first-found, first-none}
+use Rattle.fingers.specs.Graph.{Graph, Next, free, outside, leftOf, slots, Started}
 use Rattle.ordering.specs.Path.{ringed, Chain, step, Walked, Best, weight, Grown, Finished, Counted, Merged, Stepped, Explored, Selfless}
-use Rattle.ordering.proofs.Tests.{by-eq, by-lt, never, at-set}
+use Rattle.fingers.proofs.Tests.{by-eq, by-lt, never, at-set}
 use Rattle.ordering.proofs.Greedy.{was-free, left-few}
 use Rattle.ordering.proofs.Chains.{self-ring}
 use Rattle.ordering.proofs.Walks.{base, outside-yes, turn, back, merge, push, leads-all, fewer-new, len-in}

@@ -9,9 +9,9 @@ use lib.ListN.{length, getD, set, length-set}
 use lib.Seq.{getD-set-same, getD-set-other}
 use borrow.Author.Tests.{eq-eqb, ne-eqb, lt-ltb, le-ltb}
 use Rattle.paper.proofs.Bools.{both, and-left, and-right, not-so}
-use Rattle.ordering.specs.Graph.{Graph, Next, free, outside, leftOf}
+use Rattle.fingers.specs.Graph.{Graph, Next, free, outside, leftOf}
 use Rattle.ordering.specs.Path.{Chain, here, step, Walked, Merged}
-use Rattle.ordering.proofs.Tests.{by, by-eq, by-lt, never, at-set}
+use Rattle.fingers.proofs.Tests.{by, by-eq, by-lt, never, at-set}
 use Rattle.ordering.proofs.Greedy.{left-shorter}
 use Rattle.ordering.proofs.Chains.{chains-join}
 

@@ -1,5 +1,3 @@
 pub mod Prior
-pub mod Graph
 pub mod Placing
 pub mod Path
-pub mod Places

@@ -6,7 +6,7 @@ use mathlib.Core.List.{List}
 use lib.ListN.{length, getD}
 use Rattle.paper.specs.Order.{onCycle}
 use Rattle.net.specs.Prior.{upTo}
-use Rattle.ordering.specs.Graph.{Graph, free, leftOf, slots}
+use Rattle.fingers.specs.Graph.{Graph, free, leftOf, slots}
 
 -- i lies on a cycle
 unfoldable pub ringed : Graph → ℕ → Bool

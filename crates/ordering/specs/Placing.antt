@@ -7,7 +7,7 @@ use lib.Dec.{eqb}
 use lib.ListN.{length, getD, take, drop}
 use Rattle.paper.specs.Order.{greedyBy}
 use Rattle.net.specs.Prior.{upTo}
-use Rattle.ordering.specs.Graph.{Graph, free, leftOf, slots}
+use Rattle.fingers.specs.Graph.{Graph, free, leftOf, slots}
 use Rattle.ordering.specs.Prior.{labelled}
 
 -- j waits for f, which is not placed, and low says so

@@ -1,25 +1,14 @@
 -- The reported order and the lowest number on a cycle, over the numbers of the chosen labels (document 01, "Reported order",
 -- refusal 13). `prior` is "before" in terms of rows.
-use Prim.Native.Nat.{ℕ, _+_, _<_, _≤_}
+use Prim.Native.Nat.{ℕ}
 use mathlib.Core.Bool.{Bool}
 use mathlib.Core.List.{List, map, _++_}
 use mathlib.Core.Path.{_≡_}
 use lib.Dec.{eqb}
 use lib.ListN.{length, getD, drop}
 use Rattle.paper.specs.Order.{greedyBy, onCycle}
-use Rattle.table.specs.First.{first}
-use Rattle.table.specs.Rows.{kindOf, argOf, fromOf}
+use Rattle.entries.specs.First.{first}
 use Rattle.net.specs.Prior.{upTo, prior}
-use Rattle.net.specs.Net.{Chosen, Net}
-
--- What the order asks: chosen labels of nested rows with their net, and stars whose reads are there and are variables.
-pub record Ready (rows reads chosen net : List ℕ) (#N : ℕ) : Type 0 where
-  pub choice : Chosen rows chosen #N
-  pub netted : Net rows chosen #N net
-  pub read : (s : ℕ) → s < #N → kindOf rows s ≡ 1 → fromOf rows s + argOf rows s ≤ length reads
-  pub few : length reads ≤ 8192
-  pub variables : (r : ℕ) → r < length reads → getD reads r 0 < 1024
-  pub guarded : (a : ℕ) → a < #N → 4 < kindOf rows a → kindOf rows (a + 1) ≡ 1
 
 -- the numbers in the reported order: all of them exactly if there is an order
 unfoldable pub ordered : List ℕ → List ℕ → List ℕ → List ℕ

@@ -6,19 +6,20 @@ ghost use mathlib.Core.Path.{_≡_};
 ghost use Prim.Native.Nat.{ℕ, _+_, _-_, _<_, _≤_};
 ghost use lib.ListN.{length, getD};
 ghost use Rattle.net.specs.Prior.{prior};
-ghost use Rattle.ordering.specs.Prior.{Ready, lowestCyclic};
+ghost use Rattle.ordering.specs.Prior.{lowestCyclic};
+ghost use Rattle.fingers.specs.Ready.{Ready};
 ghost use Rattle.ordering.specs.Path.{Walked, Best, Finished, Settled, Counted, Merged, Stepped, Explored, Selfless};
-ghost use Rattle.ordering.specs.Places.{readsAny, graphOf};
-use crate::fingers::seek;
-use crate::fingers::start;
-use crate::fingers::stop_of;
+ghost use Rattle.fingers.specs.Places.{readsAny, graphOf};
 use crate::order::least;
+use entries::wide;
+use fingers::seek;
+use fingers::start;
+use fingers::stop_of;
 use net::guard_of;
 use paper::Label;
 use paper::Variable;
-use table::rows::arg_of;
-use table::rows::from_of;
-use table::rows::wide;
+use rows::arg_of;
+use rows::from_of;
 
 // Where the walk stands: how many numbers the path has, and how many segments; the position after the one worked on; and
 // the lowest number found on a cycle so far.

@@ -5,13 +5,14 @@ ghost use Prim.Native.Nat.{_≤_, _<_};
 ghost use mathlib.Core.Bool.{_&&_};
 ghost use lib.Dec.{ltb};
 ghost use lib.ListN.{length};
-ghost use Rattle.ordering.specs.Prior.{Ready, Filled};
-ghost use Rattle.ordering.specs.Graph.{free};
+ghost use Rattle.ordering.specs.Prior.{Filled};
+ghost use Rattle.fingers.specs.Ready.{Ready};
+ghost use Rattle.fingers.specs.Graph.{free};
 ghost use Rattle.ordering.specs.Placing.{State, Lowered, Visited, Lowest};
-ghost use Rattle.ordering.specs.Places.{graphOf};
-use crate::fingers::seek;
-use crate::fingers::start;
-use table::rows::wide;
+ghost use Rattle.fingers.specs.Places.{graphOf};
+use entries::wide;
+use fingers::seek;
+use fingers::start;
 
 // The lower of two numbers.
 pub fn least(a: usize, b: usize) -> usize

@@ -29,10 +29,10 @@ use Rattle.paper.proofs.Numbers.{numbers-say}
 use Rattle.table.specs.declared.Layout.{Layout}
 use Rattle.table.specs.declared.Refusal.{Refusal}
 use Rattle.table.specs.declared.Checked.the-variants.{Sound, Refused}
-use Rattle.table.specs.First.{first}
-use Rattle.table.specs.Sections.{layout, checked}
-use Rattle.table.specs.Tables.{rowsIn, readsIn, chosenIn, formulaIn}
-use Rattle.table.proofs.Tables.{understood}
+use Rattle.entries.specs.First.{first}
+use Rattle.table.specs.Sections.{layout, checked, rowsIn, readsIn, chosenIn}
+use Rattle.written.specs.Tables.{formulaIn}
+use Rattle.written.proofs.Tables.{understood}
 use Rattle.counting.specs.declared.Covering.the-variants.{Missed, Doubled}
 use Rattle.counting.specs.declared.Covering.the-variants as Covering
 use Rattle.counting.specs.Marks.{Marked}

@@ -13,7 +13,7 @@ use Rattle.table.specs.declared.Layout.{Layout}
 use Rattle.table.specs.declared.Checked.{Checked}
 use Rattle.table.specs.declared.Checked.the-variants.{Sound, Refused}
 use Rattle.table.specs.Sections.{checked}
-use Rattle.table.specs.Tables.{formulaIn}
+use Rattle.written.specs.Tables.{formulaIn}
 use Rattle.strategy.specs.Judge.{proposalIn, acceptedWith, answerOf, judgedAs, judgedOf, AcceptedSo, AcceptedExactly}
 use Rattle.strategy.proofs.Answers.{accepting}
 

@@ -1,12 +1,11 @@
 -- The document's listing P: its parts are what the checks ask, and its words are accepted with two transitions.
 use mathlib.Core.Path.{_≡_, refl, ap}
 use Rattle.table.specs.declared.Layout.{Layout}
-use Rattle.table.specs.Rows.{formOf}
-use Rattle.table.specs.Sections.{layout}
-use Rattle.table.specs.Formula.{starAt, childrenAt, nodeAt, formulaAt}
-use Rattle.table.specs.Tables.{rowsIn, readsIn, chosenIn}
-use Rattle.table.specs.Example.{wordsOfP}
-use Rattle.table.proofs.Example.{P-is-sound}
+use Rattle.rows.specs.Rows.{formOf}
+use Rattle.table.specs.Sections.{layout, rowsIn, readsIn, chosenIn}
+use Rattle.rows.specs.Formula.{starAt, childrenAt, nodeAt, formulaAt}
+use Rattle.written.specs.Example.{wordsOfP}
+use Rattle.written.proofs.Example.{P-is-sound}
 use Rattle.strategy.specs.Judge.{acceptedWith, judgedAs, judgedOf, Parts, Covered}
 use Rattle.strategy.proofs.Held.{parts-of}
 

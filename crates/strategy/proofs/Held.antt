@@ -12,27 +12,26 @@ use Rattle.paper.proofs.Bools.{pick}
 use Rattle.paper.proofs.Labels.{mem-has}
 use Rattle.table.specs.declared.Layout.{Layout}
 use Rattle.table.specs.declared.Checked.the-variants.{Sound}
-use Rattle.table.specs.Rows.{kindOf, argOf, fromOf, Form, aFALSE, aStar, aCandidate, aConjunction, aDisjunction, anExists, anIF, noForm, formOf}
-use Rattle.table.specs.Sections.{checked}
-use Rattle.table.specs.Formula.{formulaAt}
-use Rattle.table.specs.Walk.{Walkable}
-use Rattle.table.specs.Written.{size, Ascend}
-use Rattle.table.specs.Tables.{rowsIn, readsIn, chosenIn}
-use Rattle.table.proofs.Words.{of-rising}
-use Rattle.table.proofs.Writes.{Writes}
-use Rattle.table.proofs.WritesRead.{formula-read}
-use Rattle.table.proofs.WrittenDepth.{written-depth}
-use Rattle.table.proofs.Rules.{KindIs, is-FALSE, is-star, is-candidate, is-conjunction, is-disjunction, kind-is, star-form, Says, rest, kept}
-use Rattle.table.proofs.RulesWrite.{rules-write-whole}
-use Rattle.table.proofs.Shaped.{shaped}
-use Rattle.table.proofs.Taken.{taken-there}
+use Rattle.rows.specs.Rows.{kindOf, argOf, fromOf, Form, aFALSE, aStar, aCandidate, aConjunction, aDisjunction, anExists, anIF, noForm, formOf}
+use Rattle.table.specs.Sections.{checked, rowsIn, readsIn, chosenIn}
+use Rattle.rows.specs.Formula.{formulaAt}
+use Rattle.rows.specs.Walk.{Walkable}
+use Rattle.written.specs.Written.{size, Ascend}
+use Rattle.written.proofs.Words.{of-rising}
+use Rattle.written.proofs.Writes.{Writes}
+use Rattle.written.proofs.WritesRead.{formula-read}
+use Rattle.written.proofs.WrittenDepth.{written-depth}
+use Rattle.rows.proofs.Rules.{KindIs, is-FALSE, is-star, is-candidate, is-conjunction, is-disjunction, kind-is, star-form, Says, rest, kept}
+use Rattle.written.proofs.RulesWrite.{rules-write-whole}
+use Rattle.rows.proofs.Shaped.{shaped}
+use Rattle.rows.proofs.Taken.{taken-there}
 use Rattle.table.proofs.Laid.{accepted}
-use Rattle.table.proofs.Tables.{understood}
+use Rattle.written.proofs.Tables.{understood}
 use Rattle.counting.specs.Marks.{AllBelow}
 use Rattle.net.specs.Net.{Chosen, Net}
 use Rattle.net.proofs.Sound.{chosen-of}
 use Rattle.net.proofs.Spans.{labels-count, labels-between}
-use Rattle.ordering.specs.Prior.{Ready}
+use Rattle.fingers.specs.Ready.{Ready}
 use Rattle.strategy.specs.Judge.{Parts}
 
 pub parts-of : (words : List ℕ) (l : Layout) → checked words ≡ Sound l

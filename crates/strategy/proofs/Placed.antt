@@ -20,11 +20,12 @@ use Rattle.paper.proofs.Lists.{to-none, those-lt}
 use Rattle.paper.proofs.Labels.{same-refl, has-mem, has-head, has-those, those-has, rising-above}
 use Rattle.paper.proofs.Cycle.{chain-starts}
 use Rattle.paper.proofs.Order.{order-exists, before-between}
-use Rattle.table.specs.Rows.{kindOf}
-use Rattle.table.proofs.Meets.{lt-or-le}
+use Rattle.rows.specs.Rows.{kindOf}
+use Rattle.rows.proofs.Meets.{lt-or-le}
 use Rattle.net.specs.Net.{Chosen, Net}
 use Rattle.net.proofs.PriorIsBefore.{order-by-rows, cycle-by-rows}
-use Rattle.ordering.specs.Prior.{Ready, ordered, isCyclic, lowestCyclic, labelled, written, Filled}
+use Rattle.ordering.specs.Prior.{ordered, isCyclic, lowestCyclic, labelled, written, Filled}
+use Rattle.fingers.specs.Ready.{Ready}
 use Rattle.strategy.specs.Judge.{Parts, Covered, formulaOf, proposalOf, orderOf, judgeOrder, judgeCount}
 use Rattle.strategy.proofs.Held.{parts-write, rows-are, ascend-all, chosen-rows, ready}
 use Rattle.strategy.proofs.Strangers.{offender, none-offends, kinds-of}

@@ -15,12 +15,12 @@ use Rattle.paper.specs.Judgement.{strangers}
 use Rattle.paper.proofs.Bools.{same-answer}
 use Rattle.paper.proofs.Lists.{to-any, of-any, of-none}
 use Rattle.paper.proofs.Labels.{same-refl, same-eq}
-use Rattle.table.specs.First.{first}
-use Rattle.table.specs.Rows.{kindOf}
-use Rattle.table.specs.Written.{size}
-use Rattle.table.proofs.First.{first-below, first-at}
-use Rattle.table.proofs.Words.{word-mem, Each, each-none, each-cons, each-append}
-use Rattle.table.proofs.Writes.{Writes, WritesAll}
+use Rattle.entries.specs.First.{first}
+use Rattle.rows.specs.Rows.{kindOf}
+use Rattle.written.specs.Written.{size}
+use Rattle.entries.proofs.First.{first-below, first-at}
+use Rattle.written.proofs.Words.{word-mem, Each, each-none, each-cons, each-append}
+use Rattle.written.proofs.Writes.{Writes, WritesAll}
 use Rattle.net.proofs.Spans.{candidate-listed}
 use Rattle.strategy.specs.Judge.{Parts, formulaOf, proposalOf, isStranger}
 use Rattle.strategy.proofs.Held.{parts-write, rows-are}

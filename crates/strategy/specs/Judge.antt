@@ -17,12 +17,12 @@ use Rattle.paper.specs.Judgement.{Judgement, accepted, refused, refuse, strange
 use Rattle.table.specs.declared.Layout.{Layout}
 use Rattle.table.specs.declared.Checked.{Checked}
 use Rattle.table.specs.declared.Checked.the-variants.{Sound, Refused}
-use Rattle.table.specs.First.{first}
-use Rattle.table.specs.Rows.{kindOf, keepsRules, isDeep}
-use Rattle.table.specs.Sections.{checked, refusal}
-use Rattle.table.specs.Formula.{formulaAt}
-use Rattle.table.specs.Written.{Ascend}
-use Rattle.table.specs.Tables.{formulaIn, chosenIn}
+use Rattle.entries.specs.First.{first}
+use Rattle.rows.specs.Rows.{kindOf, keepsRules, isDeep}
+use Rattle.table.specs.Sections.{checked, refusal, chosenIn}
+use Rattle.rows.specs.Formula.{formulaAt}
+use Rattle.written.specs.Written.{Ascend}
+use Rattle.written.specs.Tables.{formulaIn}
 use Rattle.ordering.specs.Prior.{written}
 use Rattle.strategy.specs.declared.Judged.{Judged}
 use Rattle.strategy.specs.declared.Judged.the-variants as answer

@@ -4,8 +4,8 @@ ghost use Prim.Native.Nat.{ℕ, _+_, _*_, _≤_, _<_};
 ghost use mathlib.Core.List.{map};
 ghost use lib.ListN.{length, getD};
 ghost use Rattle.paper.specs.Formula.{ℓ};
-ghost use Rattle.table.specs.First.{first};
-ghost use Rattle.table.specs.Walk.{Walkable};
+ghost use Rattle.entries.specs.First.{first};
+ghost use Rattle.rows.specs.Walk.{Walkable};
 ghost use Rattle.counting.specs.Marks.{Marked};
 ghost use Rattle.counting.specs.Keys.{total, keysAt};
 ghost use Rattle.strategy.specs.Judge.{refusedAt, isStranger, countedAs, Parts, Covered, OrderedParts, JudgedParts};
@@ -20,9 +20,9 @@ use net::note_net;
 use ordering::cycle::lowest_on_cycle;
 use ordering::order::order;
 use paper::Label;
+use rows::kind_of;
 use table::Layout;
 use table::Refusal;
-use table::rows::kind_of;
 
 // A refusal as an answer.
 fn refused(number: u8, place: u16) -> Judged

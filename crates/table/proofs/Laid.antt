@@ -14,11 +14,11 @@ use Rattle.table.specs.declared.Layout.{Layout}
 use Rattle.table.specs.declared.Step.{Step}
 use Rattle.table.specs.declared.Step.the-variants.{Next, Halt}
 use Rattle.table.specs.declared.Checked.the-variants.{Sound}
-use Rattle.table.specs.First.{first}
-use Rattle.table.specs.Rows.{falls, takenBefore, keepsRules, breaksRules, isDeep}
-use Rattle.table.specs.Sections.{halt, unless, start, variablesAt, beyond, readsAt, rowsAt, strategyAt, endAt, partAt, readsOf, sections, layout, answerOf, checked}
-use Rattle.table.specs.Tables.{readsIn, rowsIn}
-use Rattle.table.proofs.First.{first-none}
+use Rattle.entries.specs.First.{first}
+use Rattle.rows.specs.Rows.{takenBefore, keepsRules, breaksRules, isDeep}
+use Rattle.entries.specs.Entries.{falls, beyond}
+use Rattle.table.specs.Sections.{halt, unless, start, variablesAt, readsAt, rowsAt, strategyAt, endAt, partAt, readsOf, sections, layout, readsIn, rowsIn, answerOf, checked}
+use Rattle.entries.proofs.First.{first-none}
 use Rattle.table.proofs.Opened.{passed, unless-of, of-unless, through, Opened, behind, held, of-held}
 use Rattle.table.proofs.ThirdSection.{all-keep, all-taken}
 

@@ -11,10 +11,10 @@ use Rattle.table.specs.declared.Refusal.{Refusal}
 use Rattle.table.specs.declared.Cursor.{Cursor}
 use Rattle.table.specs.declared.Step.{Step}
 use Rattle.table.specs.declared.Step.the-variants.{Next, Halt}
-use Rattle.table.specs.First.{first}
+use Rattle.entries.specs.First.{first}
 use Rattle.table.specs.Sections.{andThen, unless, openAt}
-use Rattle.table.proofs.First.{first-le, neither}
-use Rattle.table.proofs.Rules.{rest}
+use Rattle.entries.proofs.First.{first-le, neither}
+use Rattle.rows.proofs.Rules.{rest}
 
 -- a test that did not refuse
 pub passed : (b : Bool) (r : Refusal) (next : Step) (d : Cursor) → cond b (Halt r) next ≡ Next d → (b ≡ false) × (next ≡ Next d)

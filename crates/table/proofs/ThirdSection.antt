@@ -10,13 +10,13 @@ use borrow.Author.Tests.{lt-ltb, le-ltb, not-false}
 use lib.ListN.{length, getD, drop}
 use Rattle.table.specs.declared.Cursor.{Cursor}
 use Rattle.table.specs.declared.Step.the-variants.{Next}
-use Rattle.table.specs.First.{first}
-use Rattle.table.specs.Rows.{kindOf, argOf, takenBefore, keepsRules, breaksRules, depthOf, isDeep, Nested}
+use Rattle.entries.specs.First.{first}
+use Rattle.rows.specs.Rows.{kindOf, argOf, takenBefore, keepsRules, breaksRules, depthOf, isDeep, Nested}
 use Rattle.table.specs.Sections.{halt, openAt, rowsAt}
-use Rattle.table.proofs.First.{first-le, first-all}
-use Rattle.table.proofs.Taken.{takes-le, taken-there}
-use Rattle.table.proofs.Nested.{nested}
-use Rattle.table.proofs.Depths.{top-depth}
+use Rattle.entries.proofs.First.{first-le, first-all}
+use Rattle.rows.proofs.Taken.{takes-le, taken-there}
+use Rattle.rows.proofs.Nested.{nested}
+use Rattle.rows.proofs.Depths.{top-depth}
 
 -- rows of which none breaks its rules; they take no reads that are not there
 module _ (rows reads : List ℕ) (#V #N : ℕ) where

@@ -13,8 +13,9 @@ use Rattle.table.specs.declared.Step.{Step}
 use Rattle.table.specs.declared.Step.the-variants.{Next, Halt}
 use Rattle.table.specs.declared.Checked.{Checked}
 use Rattle.table.specs.declared.Checked.the-variants.{Sound, Refused}
-use Rattle.table.specs.First.{first}
-use Rattle.table.specs.Rows.{falls, breaksRules, takenBefore, isDeep}
+use Rattle.entries.specs.First.{first}
+use Rattle.entries.specs.Entries.{falls, beyond}
+use Rattle.rows.specs.Rows.{breaksRules, takenBefore, isDeep}
 
 abbrev pub refusal : ℕ → ℕ → Refusal
 refusal number place = record { number = number; place = place }
@@ -55,10 +56,6 @@ variablesAt part c =
     andThen (openAt part c 1 1024 1)
     (λ d. unless 4 (c .at + 1) (falls (drop 1 part)) (d .count)
     (Next (record { at = d .at; count = d .count; variables = d .count; reads = d .reads; rows = d .rows })))
-
--- entry k is limit or more
-abbrev pub beyond : List ℕ → ℕ → ℕ → Bool
-beyond entries limit k = leb limit (getD entries k 0)
 
 -- Section 2: 0 to 8,192 reads, each below V (5, at the position of the word)
 unfoldable pub readsAt : List ℕ → Cursor → Step
@@ -114,6 +111,20 @@ layout #V #R #N #S = record {
   «rows_at» = #V + #R + 3;
   «chosen_at» = #V + #R + 4 * #N + 4;
 }
+
+-- the parts of words laid out so: names, reads, rows, strategy
+module _ (words : List ℕ) (l : Layout) where
+  abbrev pub namesIn : List ℕ
+  namesIn = take (l .variables) (drop 1 words)
+
+  abbrev pub readsIn : List ℕ
+  readsIn = take (l .reads) (drop (l .«reads_at») words)
+
+  abbrev pub rowsIn : List ℕ
+  rowsIn = drop (l .«rows_at») words
+
+  abbrev pub chosenIn : List ℕ
+  chosenIn = take (l .chosen) (drop (l .«chosen_at») words)
 
 abbrev pub answerOf : Step → Checked
 answerOf (Halt r) = Refused r

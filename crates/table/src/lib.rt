@@ -1,10 +1,8 @@
-// The words of a table (document 01, "The formula table"): sections, rows, depth, strategy, each checked in its turn.
+// The words of a table (document 01, "The formula table"): sections, each checked in its turn; the rows of the third by
+// crate rows.
 ghost use mathlib.Core.Path.{_≡_};
 ghost use Rattle.table.specs.Sections.{checked};
 
-pub mod rows; // a row's words and its rules: refusals 6 and 7
-pub mod depth; // how deep rows lie: refusal 8
-pub mod walk; // the expressions under a row, for the walks of the layers above
 pub mod sections; // the cursor over sections: refusals 1, 2, 4, 5, 9 and 3
 
 // A refusal: its number in document 01's table, and its place.

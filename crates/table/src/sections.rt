@@ -2,23 +2,21 @@
 // next: refusals 1, 2, 4, 5, 9 and 3, and 6 to 8 by the rows' own checks.
 ghost use mathlib.Core.Path.{_≡_};
 ghost use Prim.Native.Nat.{_+_, _*_, _≤_, _<_, _^_};
-ghost use mathlib.Core.Bool.{_||_};
 ghost use lib.ListN.{length};
-ghost use Rattle.table.specs.First.{first};
-ghost use Rattle.table.specs.Rows.{falls};
-ghost use Rattle.table.specs.Sections.{halt, start, openAt, beyond, variablesAt, readsAt, rowsAt, strategyAt, endAt, sections, answerOf};
+ghost use Rattle.table.specs.Sections.{halt, start, openAt, variablesAt, readsAt, rowsAt, strategyAt, endAt, sections, answerOf};
 use crate::Checked;
 use crate::Cursor;
 use crate::Layout;
 use crate::Refusal;
 use crate::Step;
-use crate::depth::first_deep;
-use crate::rows::first_broken;
-use crate::rows::first_fall;
-use crate::rows::reads_taken;
-use crate::rows::wide;
+use entries::first_beyond;
+use entries::first_fall;
+use entries::first_unfit;
+use entries::wide;
 use paper::Label;
-use paper::Variable;
+use rows::depth::first_deep;
+use rows::first_broken;
+use rows::reads_taken;
 
 // A refusal as a step.
 fn refused(number: u8, place: usize) -> Step
@@ -29,52 +27,6 @@ fn refused(number: u8, place: usize) -> Step
         number,
         place: place as u32,
     })
-}
-
-// The lowest of n entries that is no variable below `variables`, or n.
-fn first_beyond(entries: &[u16], n: usize, variables: usize) -> usize
-    requires { ⌜ n ≤ length (now entries) ⌝ }
-    ensures { λ r. ⌜ r ≡ first (beyond (now (entries .entry)) variables) n ⌝ }
-{
-    let mut k = 0;
-    while k < n {
-        let v = Variable(entries[k]);
-        if variables <= wide(v.0) {
-            return k;
-        }
-        k += 1;
-    }
-    n
-}
-
-// Whether entry k of a strategy is no label below `rows`, or not above the one before.
-fn is_unfit(entries: &[u16], k: usize, rows: usize) -> bool
-    requires { ⌜ k < length (now entries) ⌝ }
-    ensures { λ r. ⌜ r ≡ (beyond (now (entries .entry)) rows k || falls (now (entries .entry)) k) ⌝ }
-{
-    let l = Label(entries[k]);
-    if rows <= wide(l.0) {
-        return true;
-    }
-    if k == 0 {
-        return false;
-    }
-    l.0 <= entries[k - 1]
-}
-
-// The lowest of n entries of a strategy that is unfit, or n.
-fn first_unfit(entries: &[u16], n: usize, rows: usize) -> usize
-    requires { ⌜ n ≤ length (now entries) ⌝ }
-    ensures { λ r. ⌜ r ≡ first (λ k. beyond (now (entries .entry)) rows k || falls (now (entries .entry)) k) n ⌝ }
-{
-    let mut k = 0;
-    while k < n {
-        if is_unfit(entries, k, rows) {
-            return k;
-        }
-        k += 1;
-    }
-    n
 }
 
 impl Cursor {

@@ -8,12 +8,13 @@ use mathlib.Core.List.{List, [], _∷_}
 use lib.ListN.{getD, replicate}
 use Rattle.paper.specs.Formula.{ℓ, has}
 use Rattle.paper.specs.Structure.Kept.{keptAt}
-use Rattle.table.specs.First.{first}
-use Rattle.table.specs.Rows.{formOf, meets, ascend, takenBefore, falseRule, starRule, candidateRule, joinRule, boundRule, endsWithin, keepsRules}
-use Rattle.table.specs.Formula.{starAt, childrenAt, nodeAt, formulaAt}
-use Rattle.table.specs.Walk.{valueAt}
-use Rattle.table.specs.Example.{P}
-use Rattle.table.proofs.Shaped.{shaped}
+use Rattle.entries.specs.First.{first}
+use Rattle.rows.specs.Rows.{formOf, meets, takenBefore, falseRule, starRule, candidateRule, joinRule, boundRule, endsWithin, keepsRules}
+use Rattle.entries.specs.Entries.{ascend}
+use Rattle.rows.specs.Formula.{starAt, childrenAt, nodeAt, formulaAt}
+use Rattle.rows.specs.Walk.{valueAt}
+use Rattle.written.specs.Example.{P}
+use Rattle.rows.proofs.Shaped.{shaped}
 use Rattle.counting.specs.Marks.{isMarked}
 use Rattle.counting.specs.Keys.{joinKeys, total, keysAt}
 use Rattle.transitions.specs.Kept.{Keepable, bytesOf}

@@ -14,11 +14,11 @@ use Rattle.paper.specs.declared.Label.{Label}
 use Rattle.paper.specs.Formula.{ℓ, Formula, Formulas}
 use Rattle.paper.specs.Structure.KeyCount.{keyCountOf, numberOf, numberOfEach}
 use Rattle.paper.specs.Structure.Kept.{keptAt, keptEach, keptAny, keptAll}
-use Rattle.table.specs.Rows.{kindOf, argOf, endOf, formOf}
-use Rattle.table.specs.Formula.{starAt, childrenAt, nodeAt, formulaAt}
-use Rattle.table.specs.Walk.{expressions, firstUnder, expressionsAt, firstAt, Walkable}
-use Rattle.table.proofs.Forms.{by-form}
-use Rattle.table.proofs.Walks.{Along, along-under, along-on, along-next}
+use Rattle.rows.specs.Rows.{kindOf, argOf, endOf, formOf}
+use Rattle.rows.specs.Formula.{starAt, childrenAt, nodeAt, formulaAt}
+use Rattle.rows.specs.Walk.{expressions, firstUnder, expressionsAt, firstAt, Walkable}
+use Rattle.rows.proofs.Forms.{by-form}
+use Rattle.rows.proofs.Walks.{Along, along-under, along-on, along-next}
 use Rattle.counting.specs.declared.Distinct.{Distinct}
 use Rattle.counting.specs.Marks.{Marked}
 use Rattle.counting.specs.Keys.{total, keysAt}

@@ -10,7 +10,7 @@ use lib.Seq.{getD-set-same, getD-set-other, set-append-left, ext-getD}
 use borrow.Author.Tests.{eqb-true, eqb-false}
 use Rattle.paper.specs.declared.Label.{Label}
 use Rattle.paper.specs.Formula.{ℓ, has}
-use Rattle.table.specs.Written.{labelsOn}
+use Rattle.written.specs.Written.{labelsOn}
 use Rattle.transitions.specs.Kept.{markedBy, bytesOf}
 
 pub marked-append : (xs ys : List Label) (out : List ℕ) → markedBy (xs ++ ys) out ≡ markedBy ys (markedBy xs out)

@@ -23,8 +23,8 @@ use Rattle.paper.proofs.Keys.{key-rises, of-key, to-key}
 use Rattle.paper.proofs.KeyLists.{getD-mem}
 use Rattle.paper.proofs.Numbers.{kept-sub, numbers-say}
 use Rattle.paper.proofs.Keys.{keys-have-length}
-use Rattle.table.specs.Formula.{formulaAt}
-use Rattle.table.specs.Walk.{Walkable}
+use Rattle.rows.specs.Formula.{formulaAt}
+use Rattle.rows.specs.Walk.{Walkable}
 use Rattle.counting.specs.Marks.{Marked}
 use Rattle.counting.specs.Keys.{total, keysAt}
 use Rattle.counting.proofs.KeyNumbers.{keys-number-within}

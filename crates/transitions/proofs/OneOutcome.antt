@@ -15,8 +15,8 @@ use Rattle.paper.specs.Formula.{ℓ, has}
 use Rattle.paper.proofs.Bools.{or-left, or-right, same-answer, pick}
 use Rattle.paper.proofs.Outcome.{by-equation}
 use Rattle.paper.proofs.Labels.{has-those, those-has}
-use Rattle.table.specs.Written.{labelsOn}
-use Rattle.table.proofs.Meets.{lt-or-le}
+use Rattle.written.specs.Written.{labelsOn}
+use Rattle.rows.proofs.Meets.{lt-or-le}
 use Rattle.counting.specs.Marks.{isMarked, Marked}
 use Rattle.transitions.specs.Kept.{KeptAfter, MarkedKept}
 use Rattle.transitions.specs.Assigned.{keptOf}

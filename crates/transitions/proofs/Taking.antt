@@ -9,11 +9,11 @@ use lib.ListN.{length, set}
 use Rattle.paper.specs.declared.Label.{Label}
 use Rattle.paper.specs.Formula.{ℓ}
 use Rattle.paper.specs.Structure.Kept.{keptAt}
-use Rattle.table.specs.Rows.{kindOf, endOf}
-use Rattle.table.specs.Formula.{formulaAt}
-use Rattle.table.specs.Walk.{expressionsAt, firstAt, Walkable}
-use Rattle.table.proofs.Rules.{number-of}
-use Rattle.table.proofs.Walks.{Along, along-under, along-on, along-next}
+use Rattle.rows.specs.Rows.{kindOf, endOf}
+use Rattle.rows.specs.Formula.{formulaAt}
+use Rattle.rows.specs.Walk.{expressionsAt, firstAt, Walkable}
+use Rattle.rows.proofs.Rules.{number-of}
+use Rattle.rows.proofs.Walks.{Along, along-under, along-on, along-next}
 use Rattle.counting.specs.declared.Distinct.{Distinct}
 use Rattle.counting.specs.Marks.{Marked}
 use Rattle.counting.specs.Keys.{total, keysAt}

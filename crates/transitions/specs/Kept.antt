@@ -9,9 +9,9 @@ use lib.ListN.{length, set, drop}
 use Rattle.paper.specs.declared.Label.{Label}
 use Rattle.paper.specs.Formula.{has}
 use Rattle.paper.specs.Structure.Kept.{keptAt}
-use Rattle.table.specs.Formula.{formulaAt}
-use Rattle.table.specs.Walk.{Walkable}
-use Rattle.table.specs.Written.{labelsOn}
+use Rattle.rows.specs.Formula.{formulaAt}
+use Rattle.rows.specs.Walk.{Walkable}
+use Rattle.written.specs.Written.{labelsOn}
 use Rattle.counting.specs.declared.Distinct.{Distinct}
 use Rattle.counting.specs.Marks.{Marked}
 use Rattle.counting.specs.Keys.{total, keysAt}

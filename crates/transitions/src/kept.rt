@@ -5,7 +5,7 @@ ghost use mathlib.Core.Bool.{true};
 ghost use mathlib.Core.List.{_++_};
 ghost use Prim.Native.Nat.{_≤_, _<_};
 ghost use lib.ListN.{length, drop, replicate};
-ghost use Rattle.table.specs.Walk.{Walkable};
+ghost use Rattle.rows.specs.Walk.{Walkable};
 ghost use Rattle.counting.specs.Keys.{total, keysAt};
 ghost use Rattle.transitions.specs.Kept.{CanTake, turnOf, sharesOf, Keepable, KeptAfter, MarkedKept};
 use crate::Shares;
@@ -14,10 +14,10 @@ use counting::Distinct;
 use counting::keys::keys_of;
 use counting::keys::total_of;
 use paper::Label;
-use table::rows::end_of;
-use table::rows::kind_of;
-use table::walk::expressions_of;
-use table::walk::first_of;
+use rows::end_of;
+use rows::kind_of;
+use rows::walk::expressions_of;
+use rows::walk::first_of;
 
 // The turn of a child that has `own` keys.
 fn turn_of(s: Shares, own: u64) -> Turn

@@ -3,7 +3,7 @@ use native.Mathlib.Omega.{arith}
 use mathlib.Core.Path.{sym, ap}
 use borrow.Author.Needs.{needs}
 use Rattle.paper.specs.Formula.{ℓ}
-use Rattle.table.proofs.Rules.{number-of}
+use Rattle.rows.proofs.Rules.{number-of}
 use Rattle.net.proofs.Climb.{Reached, Parent, reached-first, reached-next, parent-is, parent-noted}
 use Rattle.net.proofs.climbed.Statement.{statement}
 use Rattle.net.proofs.climbed.Tie as tie

@@ -5,7 +5,7 @@ use mathlib.Core.Path.{sym, ap, _∙_}
 use mathlib.Core.Logic.{inl, inr}
 use borrow.Author.Needs.{needs}
 use Rattle.paper.specs.Formula.{ℓ}
-use Rattle.table.proofs.Rules.{number-of}
+use Rattle.rows.proofs.Rules.{number-of}
 use Rattle.net.proofs.Climb.{Parent, parent-by}
 use Rattle.net.proofs.Guarding.{guard-here, guard-further}
 use Rattle.net.proofs.guarded_by.Statement.{statement}

@@ -1,7 +1,7 @@
 -- Whether a row lies in the subtree of another: it begins no later, and ends after it.
 use borrow.Author.Needs.{needs}
 use borrow.Author.Tests.{lt-leb, le-leb}
-use Rattle.table.proofs.Rules.{number-of}
+use Rattle.rows.proofs.Rules.{number-of}
 use Rattle.net.proofs.is_over.Statement.{statement}
 use Rattle.net.proofs.is_over.Tie as tie
 

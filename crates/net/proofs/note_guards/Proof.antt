@@ -6,7 +6,7 @@ use mathlib.Core.Path.{_≡_}
 use lib.ListN.{getD}
 use lib.Seq.{getD-set-same}
 use borrow.Author.Needs.{needs}
-use Rattle.table.proofs.Rules.{number-of}
+use Rattle.rows.proofs.Rules.{number-of}
 use Rattle.net.specs.Net.{Parents, Guards, Only, GuardWord, guardsFrom}
 use Rattle.net.proofs.Notes.{parents-kept, guards-first, guards-more, guards-fewer, unguarded-kept, only-none, only-more, only-then}
 use Rattle.net.proofs.note_guards.Statement.{statement}

@@ -6,7 +6,7 @@ use native.Mathlib.Omega.{arith}
 use mathlib.Core.Path.{sym, _∙_}
 use borrow.Fn.Kinds.{In}
 use borrow.Fn.PlainCycle.{Measures, is, falls, and}
-use Rattle.table.proofs.Walks.{value-none, value-FALSE, value-test, value-candidate, row-there, row-few, row-known, Walking, walk-begins, walk-on, walk-turns, walk-ends}
+use Rattle.rows.proofs.Walks.{value-none, value-FALSE, value-test, value-candidate, row-there, row-few, row-known, Walking, walk-begins, walk-on, walk-turns, walk-ends}
 use Rattle.counting.specs.Words.{unitWords, wordsReading}
 use Rattle.counting.proofs.cover.words_of.Reads as words-of
 use Rattle.counting.proofs.cover.words_of.Kinds as kinds
@@ -14,11 +14,11 @@ use Rattle.counting.proofs.cover.+words_of.Lts-words_of as lts
 use Rattle.counting.proofs.cover.join.Reads as join
 use Rattle.counting.proofs.cover.leaf_of.Reads as leaf-of
 use Rattle.counting.proofs.cover.unit_of.Reads as unit-of
-use Rattle.table.proofs.rows.arg_of.Reads as arg-of
-use Rattle.table.proofs.rows.end_of.Reads as end-of
-use Rattle.table.proofs.rows.kind_of.Reads as kind-of
-use Rattle.table.proofs.walk.expressions_of.Reads as expressions-of
-use Rattle.table.proofs.walk.first_of.Reads as first-of
+use Rattle.rows.proofs.arg_of.Reads as arg-of
+use Rattle.rows.proofs.end_of.Reads as end-of
+use Rattle.rows.proofs.kind_of.Reads as kind-of
+use Rattle.rows.proofs.walk.expressions_of.Reads as expressions-of
+use Rattle.rows.proofs.walk.first_of.Reads as first-of
 use Rattle.counting.proofs.cover.+words_of.{statement}
 use Rattle.counting.proofs.cover.+words_of.Tie.{close}
 

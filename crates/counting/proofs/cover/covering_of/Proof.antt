@@ -3,7 +3,7 @@
 use borrow.Author.Needs.{needs}
 use Prim.Native.Nat.{_-_}
 use native.Mathlib.Omega.{arith}
-use Rattle.table.proofs.First.{first-le}
+use Rattle.entries.proofs.First.{first-le}
 use Rattle.counting.specs.Words.{bitAt}
 use Rattle.counting.proofs.Blocks.{Passed, passed-none, passing-stops, passing-goes-on, passing-ends-doubled, passing-ends-covered}
 use Rattle.counting.proofs.cover.covering_of.Statement.{statement}

@@ -4,7 +4,7 @@ use Prim.Native.Nat.{ℕ, _-_, _<_, _≤_}
 use native.Mathlib.Omega.{arith}
 use mathlib.Core.Path.{_≡_, sym, _∙_}
 use mathlib.Core.Bool.{false}
-use Rattle.table.proofs.First.{first-found, first-none}
+use Rattle.entries.proofs.First.{first-found, first-none}
 use Rattle.counting.specs.Words.{bitAt}
 use Rattle.counting.proofs.Bits.{zero-bit}
 use Rattle.counting.proofs.cover.lowest_bit.Statement.{statement}

@@ -8,8 +8,8 @@ use mathlib.Core.Bool.{Bool, true, false}
 use mathlib.Core.List.{List}
 use borrow.Fn.Kinds.{In}
 use borrow.Fn.PlainCycle.{Measures, is, falls, and}
-use Rattle.table.specs.Rows.{kindOf}
-use Rattle.table.proofs.Walks.{value-none, value-FALSE, value-test, value-candidate, row-there, row-few, row-known, Walking, walk-begins, walk-on, walk-turns, walk-ends}
+use Rattle.rows.specs.Rows.{kindOf}
+use Rattle.rows.proofs.Walks.{value-none, value-FALSE, value-test, value-candidate, row-there, row-few, row-known, Walking, walk-begins, walk-on, walk-turns, walk-ends}
 use Rattle.counting.specs.declared.Distinct.{Distinct}
 use Rattle.counting.specs.Marks.{isMarked}
 use Rattle.counting.specs.Keys.{limit, leafKeys, joinKeys, keysReading, keysAt}
@@ -18,10 +18,10 @@ use Rattle.counting.proofs.keys.keys_of.Kinds as kinds
 use Rattle.counting.proofs.keys.+keys_of.Lts-keys_of as lts
 use Rattle.counting.proofs.keys.join.Reads as join
 use Rattle.counting.proofs.keys.leaf_keys.Reads as leaf-keys
-use Rattle.table.proofs.rows.end_of.Reads as end-of
-use Rattle.table.proofs.rows.kind_of.Reads as kind-of
-use Rattle.table.proofs.walk.expressions_of.Reads as expressions-of
-use Rattle.table.proofs.walk.first_of.Reads as first-of
+use Rattle.rows.proofs.end_of.Reads as end-of
+use Rattle.rows.proofs.kind_of.Reads as kind-of
+use Rattle.rows.proofs.walk.expressions_of.Reads as expressions-of
+use Rattle.rows.proofs.walk.first_of.Reads as first-of
 use Rattle.counting.proofs.keys.+keys_of.{statement}
 use Rattle.counting.proofs.keys.+keys_of.Tie.{close}
 

@@ -2,7 +2,7 @@
 use mathlib.Core.Path.{sym, ap, _∙_}
 use borrow.Author.Needs.{needs}
 use Rattle.nocturenc.specs.Packed.{packedAnswer}
-use Rattle.nocturenc.proofs.Accepted.{counts-fit}
+use Rattle.answers.proofs.Accepted.{counts-fit}
 use Rattle.nocturenc.proofs.exported.nocturenc_judge.Statement.{statement}
 use Rattle.nocturenc.proofs.exported.nocturenc_judge.Tie as tie
 

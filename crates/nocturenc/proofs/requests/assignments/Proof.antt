@@ -1,8 +1,8 @@
 -- The judgement's refusal is the answer, or what is asked of the accepted table is, by the order that the judgement leaves.
 use mathlib.Core.Path.{refl, sym}
 use borrow.Author.Needs.{needs}
-use Rattle.nocturenc.proofs.Answers.{refused-first, accepted-first}
-use Rattle.nocturenc.proofs.Accepted.{order-stands, order-as-long}
+use Rattle.answers.proofs.Answers.{refused-first, accepted-first}
+use Rattle.answers.proofs.Accepted.{order-stands, order-as-long}
 use Rattle.nocturenc.proofs.requests.assignments.Statement.{statement}
 use Rattle.nocturenc.proofs.requests.assignments.Tie as tie
 

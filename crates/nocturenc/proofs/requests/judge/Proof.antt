@@ -1,7 +1,7 @@
 -- The answer is that of the judgement, case by case.
 use mathlib.Core.Path.{sym, ap, _∙_}
 use borrow.Author.Needs.{needs}
-use Rattle.nocturenc.specs.Requests.{judgeAnswer, judgeOf}
+use Rattle.answers.specs.Requests.{judgeAnswer, judgeOf}
 use Rattle.nocturenc.proofs.requests.judge.Statement.{statement}
 use Rattle.nocturenc.proofs.requests.judge.Tie as tie
 

@@ -1,8 +1,8 @@
 -- The order that the judgement leaves is copied into the lent slice, or the refusal is the answer.
 use mathlib.Core.Path.{refl}
 use borrow.Author.Needs.{needs}
-use Rattle.nocturenc.proofs.Accepted.{order-there, order-filled}
-use Rattle.nocturenc.proofs.Answers.{refused-first}
+use Rattle.answers.proofs.Accepted.{order-there, order-filled}
+use Rattle.answers.proofs.Answers.{refused-first}
 use Rattle.nocturenc.proofs.requests.order.Statement.{statement}
 use Rattle.nocturenc.proofs.requests.order.Tie as tie
 

@@ -1,7 +1,7 @@
 -- The judgement's refusal is the answer, or what is asked of the accepted table is.
 use mathlib.Core.Path.{sym, _∙_}
 use borrow.Author.Needs.{needs}
-use Rattle.nocturenc.proofs.Answers.{refused-first, accepted-first}
+use Rattle.answers.proofs.Answers.{refused-first, accepted-first}
 use Rattle.nocturenc.proofs.requests.transition.Statement.{statement}
 use Rattle.nocturenc.proofs.requests.transition.Tie as tie
 

@@ -1,6 +1,6 @@
 -- The loop's invariant: the path and `best` are as they should be, and no mark went back. The measure is how far the walk has to go.
 use Rattle.ordering.specs.Path.{Walked, Best, Grown, weight}
-use Rattle.ordering.specs.Places.{graphOf}
+use Rattle.fingers.specs.Places.{graphOf}
 use Rattle.ordering.proofs.Steps.{explore-path, explore-best, explore-end}
 use borrow.Author.Needs.{needs}
 use Rattle.ordering.proofs.cycle.explore.Statement.{statement}

@@ -3,10 +3,10 @@ use native.Mathlib.Omega.{arith}
 use mathlib.Core.Path.{_≡_, sym, ap, _∙_}
 use lib.ListN.{length}
 use Rattle.paper.specs.declared.Label.{Label}
-use Rattle.table.specs.Rows.{fromOf}
+use Rattle.rows.specs.Rows.{fromOf}
 use Rattle.net.specs.Prior.{prior}
-use Rattle.ordering.specs.Places.{Place}
-use Rattle.ordering.proofs.Onward.{stop-in}
+use Rattle.fingers.specs.Places.{Place}
+use Rattle.fingers.proofs.GoesOn.{stop-in}
 use Rattle.ordering.proofs.Itself.{below, below-none, below-read, outer-place, outer-lower, below-outer, own-place, below-own}
 use borrow.Author.Needs.{needs}
 use Rattle.ordering.proofs.cycle.is_before_itself.Statement.{statement}

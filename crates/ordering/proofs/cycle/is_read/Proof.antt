@@ -1,8 +1,8 @@
 -- The loop's invariant: whether v is read from r on is whether it is read at all.
 use Prim.Native.Nat.{_-_}
 use mathlib.Core.Path.{_≡_, refl, sym, _∙_}
-use Rattle.ordering.specs.Places.{readsAny}
-use Rattle.ordering.proofs.Onward.{reads-hit, reads-miss, reads-none}
+use Rattle.fingers.specs.Places.{readsAny}
+use Rattle.fingers.proofs.GoesOn.{reads-hit, reads-miss, reads-none}
 use borrow.Author.Needs.{needs}
 use Rattle.ordering.proofs.cycle.is_read.Statement.{statement}
 use Rattle.ordering.proofs.cycle.is_read.Tie as tie

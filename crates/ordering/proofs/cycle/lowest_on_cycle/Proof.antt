@@ -6,13 +6,13 @@ use mathlib.Core.Bool.{false}
 use lib.ListN.{length}
 use borrow.Author.Count.{below-more}
 use Rattle.paper.proofs.Bools.{not-so}
-use Rattle.table.proofs.First.{first-same}
+use Rattle.entries.proofs.First.{first-same}
 use Rattle.ordering.specs.Prior.{isCyclic, lowestCyclic}
-use Rattle.ordering.specs.Graph.{free}
+use Rattle.fingers.specs.Graph.{free}
 use Rattle.ordering.specs.Path.{ringed, Walked, Best}
-use Rattle.ordering.specs.Places.{graphOf}
-use Rattle.ordering.proofs.Tests.{never}
-use Rattle.ordering.proofs.Seeking.{started}
+use Rattle.fingers.specs.Places.{graphOf}
+use Rattle.fingers.proofs.Tests.{never}
+use Rattle.fingers.proofs.Seeking.{started}
 use Rattle.ordering.proofs.Steps.{empty-first, best-start, best-first}
 use borrow.Author.Needs.{needs}
 use Rattle.ordering.proofs.cycle.lowest_on_cycle.Statement.{statement}

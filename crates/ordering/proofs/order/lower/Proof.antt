@@ -4,7 +4,7 @@ use native.Mathlib.Omega.{arith}
 use mathlib.Core.Path.{ap}
 use lib.ListN.{length, getD, length-set}
 use lib.Seq.{getD-set-same}
-use Rattle.ordering.proofs.Tests.{at-set}
+use Rattle.fingers.proofs.Tests.{at-set}
 use borrow.Author.Needs.{needs}
 use Rattle.ordering.proofs.order.lower.Statement.{statement}
 use Rattle.ordering.proofs.order.lower.Tie as tie

@@ -6,9 +6,9 @@ use mathlib.Core.Path.{refl}
 use lib.ListN.{length}
 use Rattle.ordering.specs.Prior.{ordered}
 use Rattle.ordering.specs.Placing.{Lowest, Placing}
-use Rattle.ordering.specs.Places.{graphOf}
+use Rattle.fingers.specs.Places.{graphOf}
 use Rattle.ordering.proofs.Greedy.{state-first, placing-first, state-after, not-full, placing-more, placing-done}
-use Rattle.ordering.proofs.Seeking.{started}
+use Rattle.fingers.proofs.Seeking.{started}
 use borrow.Author.Needs.{needs}
 use Rattle.ordering.proofs.order.order.Statement.{statement}
 use Rattle.ordering.proofs.order.order.Tie as tie

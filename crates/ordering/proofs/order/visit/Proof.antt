@@ -2,9 +2,9 @@
 use native.Mathlib.Omega.{arith}
 use mathlib.Core.Path.{refl, sym, _∙_}
 use borrow.Author.Tests.{eq-eqb, ne-eqb}
-use Rattle.ordering.specs.Graph.{free}
+use Rattle.fingers.specs.Graph.{free}
 use Rattle.ordering.proofs.Moves.{visit-placed, visit-waiting, visit-ready, visit-blocked}
-use Rattle.ordering.proofs.Seeking.{outside-free, next-alike}
+use Rattle.fingers.proofs.Seeking.{outside-free, next-alike}
 use borrow.Author.Needs.{needs}
 use Rattle.ordering.proofs.order.visit.Statement.{statement}
 use Rattle.ordering.proofs.order.visit.Tie as tie

@@ -8,7 +8,7 @@ use lib.ListN.{length}
 use borrow.Author.Tests.{eq-eqb, ne-eqb}
 use borrow.Author.Count.{below-more}
 use borrow.Author.Needs.{needs}
-use Rattle.table.proofs.First.{first-found, first-none}
+use Rattle.entries.proofs.First.{first-found, first-none}
 use Rattle.strategy.specs.Judge.{isStranger}
 use Rattle.strategy.proofs.checks.first_stranger.Statement.{statement}
 use Rattle.strategy.proofs.checks.first_stranger.Tie as tie

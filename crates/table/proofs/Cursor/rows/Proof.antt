@@ -9,11 +9,11 @@ use lib.ListN.{length, take, drop}
 use lib.Seq.{getD-drop}
 use denote.Ref.{now}
 use Rattle.table.specs.declared.Step.the-variants.{Next}
-use Rattle.table.specs.First.{first}
-use Rattle.table.specs.Rows.{takenBefore, keepsRules, breaksRules, isDeep}
+use Rattle.entries.specs.First.{first}
+use Rattle.rows.specs.Rows.{takenBefore, keepsRules, breaksRules, isDeep}
 use Rattle.table.specs.Sections.{halt, openAt, rowsAt}
-use Rattle.table.proofs.Rules.{rest}
-use Rattle.table.proofs.Depths.{top-deep}
+use Rattle.rows.proofs.Rules.{rest}
+use Rattle.rows.proofs.Depths.{top-deep}
 use Rattle.table.proofs.Opened.{Opened, opened, entries-there}
 use Rattle.table.proofs.ThirdSection.{none-broken, walk-asks, taken-small, some-broken, some-left, some-deep, none-deep}
 use borrow.Author.Needs.{needs}

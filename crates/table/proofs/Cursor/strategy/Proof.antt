@@ -5,7 +5,7 @@ use mathlib.Core.Path.{sym, _∙_}
 use denote.Ref.{now}
 use borrow.Author.Tests.{lt-ltb, le-ltb}
 use Rattle.table.specs.Sections.{strategyAt}
-use Rattle.table.proofs.Rules.{rest}
+use Rattle.rows.proofs.Rules.{rest}
 use Rattle.table.proofs.Opened.{Opened, opened, entries-there}
 use borrow.Author.Needs.{needs}
 use Rattle.table.proofs.Cursor.strategy.Statement.{statement}

@@ -7,7 +7,7 @@ use denote.Ref.{now}
 use Rattle.table.specs.declared.Cursor.{Cursor}
 use Rattle.table.specs.declared.Step.the-variants.{Next}
 use Rattle.table.specs.Sections.{start, variablesAt, readsAt, rowsAt, strategyAt, partAt, readsOf, sections}
-use Rattle.table.proofs.Rules.{rest}
+use Rattle.rows.proofs.Rules.{rest}
 use Rattle.table.proofs.Laid.{NamesPassed, ReadsPassed, RowsPassed, InReach, names-of, reads-of, rows-of, chosen-of, names-reach, reads-reach, reads-between, between-reads, length-between, rows-reach, chosen-reach}
 use borrow.Author.Needs.{needs}
 use Rattle.table.proofs.sections.sections.Statement.{statement}

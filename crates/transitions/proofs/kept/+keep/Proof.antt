@@ -8,16 +8,16 @@ use lib.ListN.{length-set}
 use borrow.Author.Tests.{not-true, not-false}
 use borrow.Fn.Kinds.{In}
 use borrow.Fn.PlainCycle.{Measures, is, falls, and}
-use Rattle.table.proofs.Walks.{row-there, row-few, row-known}
+use Rattle.rows.proofs.Walks.{row-there, row-few, row-known}
 use Rattle.transitions.proofs.Taking.{kept-off, set-with-none, set-alone, Taking, taking-begins, taking-on, taking-take, taking-asks, taking-turns, taking-ends}
 use Rattle.transitions.proofs.kept.keep.Reads as keep
 use Rattle.transitions.proofs.kept.keep.Kinds as kinds
 use Rattle.transitions.proofs.kept.+keep.Lts-keep as lts
 use Rattle.counting.proofs.keys.keys_of.Reads as keys-of
-use Rattle.table.proofs.rows.end_of.Reads as end-of
-use Rattle.table.proofs.rows.kind_of.Reads as kind-of
-use Rattle.table.proofs.walk.expressions_of.Reads as expressions-of
-use Rattle.table.proofs.walk.first_of.Reads as first-of
+use Rattle.rows.proofs.end_of.Reads as end-of
+use Rattle.rows.proofs.kind_of.Reads as kind-of
+use Rattle.rows.proofs.walk.expressions_of.Reads as expressions-of
+use Rattle.rows.proofs.walk.first_of.Reads as first-of
 use Rattle.transitions.proofs.kept.number_at.Reads as number-at
 use Rattle.transitions.proofs.kept.shares_of.Reads as shares-of
 use Rattle.transitions.proofs.kept.turn_of.Reads as turn-of

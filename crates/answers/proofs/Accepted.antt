@@ -1,0 +1,153 @@
+-- What is known of words that the judgement accepts: the table that they write, its bounds, that its proposal is a strategy, and
+-- that the number of transitions is that of the distinct keys.
+use Prim.Native.Nat.{ℕ, _≤_}
+use native.Mathlib.Omega.{arith}
+use mathlib.Core.Path.{_≡_, refl, sym, ap, subst, _∙_}
+use mathlib.Core.Bool.{not}
+use mathlib.Core.List.{List, map}
+use lib.ListN.{length, take, length-map, length-take}
+use lib.Seq.{length-take-le, length-front}
+use Rattle.paper.specs.Formula.{ℓ, labels, isCandidate}
+use Rattle.paper.specs.Strategy.{Strategy}
+use Rattle.paper.specs.Transition.{keys}
+use Rattle.paper.specs.Judgement.{Judgement, accepted, refused, judge}
+use Rattle.paper.proofs.Lists.{to-none}
+use Rattle.paper.proofs.Labels.{mem-has}
+use Rattle.paper.proofs.Judgement.{accepted-exactly, accepted-only-so}
+use Rattle.table.specs.declared.Layout.{Layout}
+use Rattle.table.specs.declared.Checked.{Checked}
+use Rattle.table.specs.declared.Checked.the-variants.{Sound, Refused}
+use Rattle.table.specs.Sections.{checked, chosenIn}
+use Rattle.written.specs.Tables.{Understood, formulaIn}
+use Rattle.written.proofs.Tables.{understood}
+use Rattle.ordering.specs.Prior.{written}
+use Rattle.strategy.specs.declared.Accepted.{Accepted}
+use Rattle.strategy.specs.declared.Judged.{Judged}
+use Rattle.strategy.specs.declared.Judged.the-variants as judged
+use Rattle.strategy.specs.Judge.{judgedOf, judgedAs, answerOf, proposalIn, orderLeft, JudgedInto}
+use Rattle.strategy.proofs.Held.{parts-of, chosen-rows}
+use Rattle.strategy.proofs.Strangers.{kinds-of}
+use Rattle.strategy.proofs.Placed.{order-length}
+use Rattle.answers.specs.declared.Counts.{Counts}
+use Rattle.answers.specs.declared.Answer.{Answer}
+use Rattle.answers.specs.declared.Answer.the-variants as answer
+use Rattle.answers.specs.declared.Filled.{Filled}
+use Rattle.answers.specs.Requests.{judgeAnswer, judgeOf, FitCounts, reported, unlessShort, Fills, orderOutcome, orderOf, Ordered}
+use Rattle.answers.proofs.Answers.{accepted-first}
+
+-- an acceptance comes from an acceptance
+abbrev layoutIn : Judged → Layout → Layout
+layoutIn (judged.Accepted a) other = a .layout
+layoutIn (judged.Refused x) other = other
+
+abbrev transitionsIn : Judged → ℕ
+transitionsIn (judged.Accepted a) = a .transitions
+transitionsIn (judged.Refused x) = 0
+
+abbrev judgement : List ℕ → Layout → Judgement
+judgement words l = judge (l .variables) (formulaIn words l) (proposalIn words l)
+
+accepting : (l : Layout) (j : Judgement) {a : Accepted} → answerOf l j ≡ judged.Accepted a
+    → (l ≡ a .layout) × (v n s : ℕ) × (j ≡ accepted v n s (a .transitions))
+accepting l (accepted v n s t) e = (ap (λ r. layoutIn r l) e, v, n, s, ap (λ k. accepted v n s k) (ap transitionsIn e))
+accepting l (refused number place) e = let z : _≡_ {A = ℕ} 0 1 = cc in absurd (omega arith)
+
+record Passed (words : List ℕ) (k : Checked) (a : Accepted) : Type 0 where
+  sound : k ≡ Sound (a .layout)
+  v : ℕ
+  n : ℕ
+  s : ℕ
+  accepts : judgement words (a .layout) ≡ accepted v n s (a .transitions)
+
+passed : (words : List ℕ) (k : Checked) (a : Accepted) → judgedAs words k ≡ judged.Accepted a → Passed words k a
+passed words (Refused r) a e = let z : _≡_ {A = ℕ} 0 1 = cc in absurd (omega arith)
+passed words (Sound l) a e =
+    let (same, v, n, s, j) = accepting l (judgement words l) e in
+    record { sound = ap Sound same; v = v; n = n; s = s; accepts = ap (judgement words) (sym same) ∙ j }
+
+module _ (words : List ℕ) (a : Accepted) (e : judgedOf words ≡ judged.Accepted a) where
+  all-passed : Passed words (checked words) a
+  unfolding judgedOf
+  all-passed = passed words (checked words) a e
+
+  pub is-sound : checked words ≡ Sound (a .layout)
+  is-sound = all-passed .sound
+
+  pub is-understood : Understood words (a .layout)
+  is-understood = understood words (a .layout) is-sound
+
+  whole : judgement words (a .layout)
+      ≡ accepted (a .layout .variables) (length (labels (formulaIn words (a .layout)))) (length (proposalIn words (a .layout)))
+      (length (keys (formulaIn words (a .layout)) (proposalIn words (a .layout))))
+  whole = accepted-only-so (a .layout .variables) (formulaIn words (a .layout)) (proposalIn words (a .layout)) _ _ _ _ (all-passed .accepts)
+
+  pub is-strategy : Strategy (a .layout .variables) (formulaIn words (a .layout)) (proposalIn words (a .layout))
+  is-strategy = accepted-exactly (a .layout .variables) (formulaIn words (a .layout)) (proposalIn words (a .layout)) .0 whole .0
+
+  pub count-is : a .transitions ≡ length (keys (formulaIn words (a .layout)) (proposalIn words (a .layout)))
+  count-is = cc (all-passed .accepts, whole)
+
+  pub few-transitions : a .transitions ≤ 65535
+  few-transitions =
+      let h = accepted-exactly (a .layout .variables) (formulaIn words (a .layout)) (proposalIn words (a .layout)) .0 whole .1 in
+      omega (arith, count-is)
+
+  -- a candidate takes two rows
+  pub few-chosen : a .layout .chosen ≤ 2048
+  few-chosen =
+      let p = parts-of words (a .layout) is-sound in
+      let none = to-none (λ x. not (isCandidate (formulaIn words (a .layout)) x)) (proposalIn words (a .layout)) (λ x t. ap not (is-strategy .homogeneous x (mem-has t))) in
+      omega (arith, chosen-rows p (kinds-of p none) .few, is-understood .chosen-there)
+
+  -- the reported order places all chosen labels
+  pub reported-length : length (reported words (a .layout)) ≡ a .layout .chosen
+  reported-length =
+      let l = a .layout in
+      order-length (formulaIn words l) (proposalIn words l) (is-understood .within .chosen-ascend) (is-strategy .acyclic)
+      ∙ length-map (chosenIn words l) ℓ ∙ is-understood .chosen-there
+
+-- the counts of a judge request
+abbrev countsIn : Answer → Counts → Counts
+countsIn (answer.Accepted c) other = c
+countsIn (answer.Refused x) other = other
+
+pub counts-fit : (words : List ℕ) (c : Counts) → judgeOf words ≡ answer.Accepted c → FitCounts c
+unfolding judgeOf
+counts-fit words c e = go (judgedOf words) refl e
+  where
+    go : (j : Judged) → judgedOf words ≡ j → judgeAnswer j ≡ answer.Accepted c → FitCounts c
+    go (judged.Refused x) q e = let z : _≡_ {A = ℕ} 0 1 = cc in absurd (omega arith)
+    go (judged.Accepted a) q e =
+        let u = is-understood words a q in
+        subst FitCounts (ap (λ x. countsIn x c) e)
+        (record { variables-fit = u .most-variables; rows-fit = u .most-rows; chosen-fit = u .most-chosen; transitions-fit = few-transitions words a q })
+
+-- The order that a judgement leaves.
+module _ (words order₀ order : List ℕ) (j : Judged) (i : JudgedInto words order₀ order j) where
+  module _ (a : Accepted) (e : j ≡ judged.Accepted a) where
+    pub accepts : judgedOf words ≡ judged.Accepted a
+    accepts = sym (i .answered) ∙ e
+
+    -- it is all there
+    pub order-there : (a .layout .chosen ≤ length order) × (a .layout .chosen ≤ 2048)
+    order-there =
+        let taken = ap length (i .ordered (a .layout) (a .transitions) e) ∙ length-map (reported words (a .layout)) (λ x. x .0) ∙ reported-length words a accepts in
+        (omega (arith, simp length-take at taken), few-chosen words a accepts)
+
+    pub order-stands : Ordered words a order
+    order-stands = record { accepted = accepts; in-front = i .ordered (a .layout) (a .transitions) e }
+
+    -- and the words lent for it are as many as they were
+    pub order-as-long : length order₀ ≡ 2048 → length order ≡ 2048
+    unfolding orderLeft written
+    order-as-long n =
+        let l = a .layout in
+        let o = map (λ x. x .0) (reported words l) in
+        let many = length-map (reported words l) (λ x. x .0) ∙ reported-length words a accepts in
+        let few = few-chosen words a accepts in
+        let left = rw (is-sound words a accepts, all-passed words a accepts .accepts) at (i .left-so) in
+        ap length left ∙ length-front order₀ o (length o) (sym (length-take-le (length o) order₀ (omega arith))) ∙ n
+
+    pub order-filled : {lent left : List ℕ} {r : Filled} → Fills (unlessShort (length lent) (take (a .layout .chosen) order)) lent left r
+        → Fills (orderOf words (length lent)) lent left r
+    order-filled {lent} f = accepted-first words j (i .answered) a e (orderOutcome words (length lent)) (rw (← i .ordered (a .layout) (a .transitions) e) f)

@@ -1,0 +1,76 @@
+-- 15 and 18 are refused as for the transition; else the chosen labels that it keeps are put in reported order and copied.
+use mathlib.Core.Path.{refl, sym}
+use borrow.Author.Needs.{needs}
+use Rattle.answers.proofs.Answers.{whole, refused-alike, filled-whole}
+use Rattle.answers.proofs.Keeping.{marks-fit, front-there, front-length, fillable, assigned-there, assigned-front}
+use Rattle.answers.proofs.judged.assignments_of.Statement.{statement}
+use Rattle.answers.proofs.judged.assignments_of.Tie as tie
+
+slice-aggregate-transition-of : tie.Need-slice-aggregate-transition-of
+slice-aggregate-transition-of c = search needs
+
+transition-of-requires : tie.Need-transition-of-requires
+transition-of-requires c κs = search needs
+
+enum-told : tie.Need-enum-told
+enum-told c = search needs
+
+enum-told-2 : tie.Need-enum-told-2
+enum-told-2 c = search needs
+
+returns : tie.Need-returns
+returns c = refused-alike _ _ _ _ _ _ _ (c .before .before .before .transition-of .ensures) (marks-fit _ _ (c .before .before .before .before .before .before .before .before .pre .accepted) _) _ (c .enum-told2 .given .1) _ _
+
+array-share-prefix-kept : tie.Need-array-share-prefix-kept
+array-share-prefix-kept c =
+    let e = c .before .before .before .before .before .before .before .before .before .pre .accepted in
+    let w = filled-whole _ _ _ _ _ _ _ (c .before .before .before .before .transition-of .ensures) (marks-fit _ _ e _) _ (c .before .enum-told .given .1) in
+    front-there _ _ e _ (w .there) _ _ (w .bytes) .0
+
+slice-aggregate-fill-assigned : tie.Need-slice-aggregate-fill-assigned
+slice-aggregate-fill-assigned c =
+    let e = c .before .before .before .before .before .before .before .before .before .before .pre .accepted in
+    let w = filled-whole _ _ _ _ _ _ _ (c .before .before .before .before .before .transition-of .ensures) (marks-fit _ _ e _) _ (c .before .before .enum-told .given .1) in
+    front-length _ _ e _ (w .there) _ _ (w .bytes)
+
+slice-aggregate-fill-assigned-2 : tie.Need-slice-aggregate-fill-assigned-2
+slice-aggregate-fill-assigned-2 c = search needs
+
+fill-assigned-requires : tie.Need-fill-assigned-requires
+fill-assigned-requires c κs =
+    let e = c .before .before .before .before .before .before .before .before .before .before .before .pre .accepted in
+    let w = filled-whole _ _ _ _ _ _ _ (c .before .before .before .before .before .before .transition-of .ensures) (marks-fit _ _ e _) _ (c .before .before .before .enum-told .given .1) in
+    fillable _ _ e _ (w .there) _ _ (w .bytes) _ (c .before .before .before .before .before .before .before .before .before .before .before .pre) _ refl
+
+fill-words-requires : tie.Need-fill-words-requires
+fill-words-requires c κs =
+    let e = c .before .before .before .before .before .before .before .before .before .before .before .before .before .before .before .pre .accepted in
+    let w = filled-whole _ _ _ _ _ _ _ (c .before .before .before .before .before .before .before .before .before .before .transition-of .ensures) (marks-fit _ _ e _) _ (c .before .before .before .before .before .before .before .enum-told .given .1) in
+    assigned-there _ _ e _ (w .there) _ _ (w .bytes) _ (c .before .before .before .before .before .before .before .before .before .before .before .before .before .before .before .pre) _ _ _ (c .before .before .before .fill-assigned .ensures .0) (c .before .before .before .fill-assigned .ensures .1)
+
+same-length : tie.Need-same-length
+same-length c = search needs
+
+returns-2 : tie.Need-returns-2
+returns-2 c =
+    let e = c .before .before .before .before .before .before .before .before .before .before .before .before .before .before .before .before .before .before .pre .accepted in
+    let w = filled-whole _ _ _ _ _ _ _ (c .before .before .before .before .before .before .before .before .before .before .before .before .before .transition-of .ensures) (marks-fit _ _ e _) _ (c .before .before .before .before .before .before .before .before .before .before .enum-told .given .1) in
+    let assigned = assigned-front _ _ e _ (w .there) _ _ (w .bytes) _ (c .before .before .before .before .before .before .before .before .before .before .before .before .before .before .before .before .before .before .pre) _ _ _ (c .before .before .before .before .before .before .fill-assigned .ensures .0) (c .before .before .before .before .before .before .fill-assigned .ensures .1) in
+    whole _ _ _ _ _ _ (w .there) _ (sym (w .has-all)) refl (rw assigned at (c .before .before .fill-words .ensures))
+
+pub assignments-of-spec : {M : Type 1} → statement M
+assignments-of-spec =
+    tie.close
+    (tie.spec
+    slice-aggregate-transition-of
+    transition-of-requires
+    enum-told
+    enum-told-2
+    returns
+    array-share-prefix-kept
+    slice-aggregate-fill-assigned
+    slice-aggregate-fill-assigned-2
+    fill-assigned-requires
+    fill-words-requires
+    same-length
+    returns-2)

@@ -1,0 +1,67 @@
+// The end of a request that fills: a refusal, or what stands at the front of the lent slice.
+ghost use mathlib.Core.Path.{_≡_};
+ghost use Prim.Native.Nat.{_≤_};
+ghost use lib.ListN.{length, take};
+ghost use Rattle.answers.specs.Requests.{refuses, unlessShort, filledOf, copied, Fills};
+use crate::Filled;
+use crate::Length;
+use table::Refusal;
+
+// A refusal as the answer of a request that fills.
+pub fn refused(number: u8, place: usize) -> Filled
+    requires { ⌜ place ≤ 65535 ⌝ }
+    ensures { λ r. ⌜ r ≡ filledOf (refuses number place) ⌝ }
+{
+    Filled::Refused(Refusal {
+        number,
+        place: place as u32,
+    })
+}
+
+// Copies the first `count` words.
+fn copy_words(from: &[u16; 2048], count: usize, out: &mut [u16])
+    requires { ⌜ (count ≤ length (now from)) × (count ≤ 2048) × (count ≤ length (now out)) ⌝ }
+    ensures { λ _. ⌜ now (out .exit) ≡ copied (now (from .entry)) count (now (out .entry)) ⌝ }
+{
+    let mut i = 0;
+    while i < count {
+        out[i] = from[i];
+        i += 1;
+    }
+}
+
+// Copies the first `n` bytes.
+fn copy_bytes(from: &[u8; 4096], n: usize, out: &mut [u8])
+    requires { ⌜ (n ≤ length (now from)) × (n ≤ 4096) × (n ≤ length (now out)) ⌝ }
+    ensures { λ _. ⌜ now (out .exit) ≡ copied (now (from .entry)) n (now (out .entry)) ⌝ }
+{
+    let mut i = 0;
+    while i < n {
+        out[i] = from[i];
+        i += 1;
+    }
+}
+
+// 16, or the first `count` words at the front of `out`.
+pub fn fill_words(from: &[u16; 2048], count: usize, out: &mut [u16]) -> Filled
+    requires { ⌜ (count ≤ length (now from)) × (count ≤ 2048) ⌝ }
+    ensures { λ r. ⌜ Fills (unlessShort (length (now (out .entry))) (take count (now (from .entry)))) (now (out .entry)) (now (out .exit)) r ⌝ }
+{
+    if out.len() < count {
+        return refused(16, count);
+    }
+    copy_words(from, count, out);
+    Filled::Done(Length { count })
+}
+
+// 16, or the first `n` bytes at the front of `out`.
+pub fn fill_bytes(from: &[u8; 4096], n: usize, out: &mut [u8]) -> Filled
+    requires { ⌜ (n ≤ length (now from)) × (n ≤ 4096) ⌝ }
+    ensures { λ r. ⌜ Fills (unlessShort (length (now (out .entry))) (take n (now (from .entry)))) (now (out .entry)) (now (out .exit)) r ⌝ }
+{
+    if out.len() < n {
+        return refused(16, n);
+    }
+    copy_bytes(from, n, out);
+    Filled::Done(Length { count: n })
+}

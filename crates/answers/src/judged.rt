@@ -1,0 +1,70 @@
+// Transition k and its assignments, for a caller that has judged the words. 15, then 18, then 16; nothing is written before all
+// are passed.
+ghost use mathlib.Core.Path.{_≡_};
+ghost use lib.ListN.{length};
+ghost use Rattle.answers.specs.Requests.{transitionOutcome, assignmentsOutcome, Fills, AcceptedAs, Ordered, Asked, Kept};
+use crate::Filled;
+use crate::filling::fill_bytes;
+use crate::filling::fill_words;
+use crate::filling::refused;
+use counting::marks::marks_of;
+use strategy::Accepted;
+use transitions::assigned::count_kept;
+use transitions::assigned::fill_assigned;
+use transitions::kept::mark_kept;
+
+// Puts the bytes of transition k in front; gives how many chosen labels it keeps.
+fn keep(words: &[u16], a: Accepted, k: usize, kept: &mut [u8]) -> usize
+    requires { ⌜ Asked (now words) a k (now kept) ⌝ }
+    ensures { λ r. ⌜ Kept (now (words .entry)) (a .layout) k (now (kept .entry)) (now (kept .exit)) r ⌝ }
+{
+    let l = a.layout;
+    let rows = l.rows_at;
+    let chosen = l.chosen_at;
+    let n = l.rows;
+    let marks = marks_of(&words[chosen..]);
+    mark_kept(&words[rows..], &marks, n as u16, k as u64, kept);
+    count_kept(&words[chosen..], &kept[..n])
+}
+
+// The kept labels of transition k, in the first N bytes of `out`.
+pub fn transition_of(words: &[u16], a: Accepted, k: usize, out: &mut [u8]) -> Filled
+    requires { ⌜ AcceptedAs (now words) a ⌝ }
+    ensures { λ r. ⌜ Fills (transitionOutcome (now (words .entry)) k (length (now (out .entry))) (a .layout) (a .transitions)) (now (out .entry)) (now (out .exit)) r ⌝ }
+{
+    let l = a.layout;
+    let count = a.transitions;
+    if count <= k {
+        return refused(15, count);
+    }
+    let mut kept = [0u8; 4096];
+    let chosen = keep(words, a, k, &mut kept);
+    if chosen != l.variables {
+        return refused(18, k);
+    }
+    fill_bytes(&kept, l.rows, out)
+}
+
+// The chosen labels of transition k in reported order, V words, at the front of `out`; `order` begins with the reported order.
+// 15 and 18 are asked as the transition's bytes are put in a local array, which has room for them.
+pub fn assignments_of(
+    words: &[u16],
+    a: Accepted,
+    order: &[u16],
+    k: usize,
+    out: &mut [u16],
+) -> Filled
+    requires { ⌜ Ordered (now words) a (now order) ⌝ }
+    ensures { λ r. ⌜ Fills (assignmentsOutcome (now (words .entry)) k (length (now (out .entry))) (a .layout) (a .transitions)) (now (out .entry)) (now (out .exit)) r ⌝ }
+{
+    let mut kept = [0u8; 4096];
+    let marked = transition_of(words, a, k, &mut kept);
+    let Filled::Done(_) = marked else {
+        return marked;
+    };
+    let l = a.layout;
+    let n = l.rows;
+    let mut labels = [0u16; 2048];
+    let filled = fill_assigned(order, l.chosen, &kept[..n], &mut labels);
+    fill_words(&labels, filled, out)
+}

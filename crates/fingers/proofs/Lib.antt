@@ -1,0 +1,6 @@
+pub mod Tests
+pub mod Kept
+pub mod Guards
+pub mod GoesOn
+pub mod Seeking
+pub mod Looking

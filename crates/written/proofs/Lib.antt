@@ -1,0 +1,14 @@
+pub mod Stands
+pub mod Words
+pub mod StarReads
+pub mod Writes
+pub mod WrittenRows
+pub mod WritesRead
+pub mod WritesKeep
+pub mod WritesWords
+pub mod WrittenDepth
+pub mod RulesWrite
+pub mod Bounds
+pub mod Understood
+pub mod Tables
+pub mod Example
