@@ -6,3 +6,4 @@ pub mod Shaped
 pub mod Walks
 pub mod Depths
 pub mod Taken
+pub mod OneOutcome

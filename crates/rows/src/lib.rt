@@ -160,7 +160,7 @@ fn ends_within(n: u16, at: Label, end: Label) -> bool
 }
 
 // Whether a row keeps its rules, where the stars before it take `taken` reads.
-pub fn keeps_rules(
+fn keeps_rules(
     rows: &[u16],
     reads: &[u16],
     variables: usize,

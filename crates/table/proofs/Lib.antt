@@ -1,3 +1,4 @@
 pub mod Opened
 pub mod ThirdSection
 pub mod Laid
+pub mod OneOutcome

@@ -3,7 +3,7 @@
 ghost use mathlib.Core.Path.{_≡_};
 ghost use Rattle.table.specs.Sections.{checked};
 
-pub mod sections; // the cursor over sections: refusals 1, 2, 4, 5, 9 and 3
+mod sections; // the cursor over sections: refusals 1, 2, 4, 5, 9 and 3
 
 // A refusal: its number in document 01's table, and its place.
 pub struct Refusal {

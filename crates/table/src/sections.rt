@@ -74,7 +74,7 @@ impl Cursor {
     }
 
     // Section 1: names, strictly ascending.
-    pub fn variables(self, part: &[u16]) -> Step
+    fn variables(self, part: &[u16]) -> Step
         requires { ⌜ self .at ≤ 65536 ⌝ }
         ensures { λ r. ⌜ r ≡ variablesAt (now (part .entry)) self ⌝ }
     {
@@ -98,7 +98,7 @@ impl Cursor {
     }
 
     // Section 2: reads, each a variable.
-    pub fn reads(self, part: &[u16]) -> Step
+    fn reads(self, part: &[u16]) -> Step
         requires { ⌜ self .at ≤ 65536 ⌝ }
         ensures { λ r. ⌜ r ≡ readsAt (now (part .entry)) self ⌝ }
     {
@@ -122,7 +122,7 @@ impl Cursor {
     }
 
     // Section 3: rows that keep their rules, take all reads and are no deeper than 64.
-    pub fn rows(self, part: &[u16], reads: &[u16]) -> Step
+    fn rows(self, part: &[u16], reads: &[u16]) -> Step
         requires { ⌜ (self .at ≤ 65536) × (length (now reads) ≡ self .reads) ⌝ }
         ensures { λ r. ⌜ r ≡ rowsAt (now (part .entry)) (now (reads .entry)) self ⌝ }
     {
@@ -154,7 +154,7 @@ impl Cursor {
     }
 
     // Section 4: labels of rows, strictly ascending.
-    pub fn strategy(self, part: &[u16]) -> Step
+    fn strategy(self, part: &[u16]) -> Step
         requires { ⌜ self .at ≤ 65536 ⌝ }
         ensures { λ r. ⌜ r ≡ strategyAt (now (part .entry)) self ⌝ }
     {
@@ -171,7 +171,7 @@ impl Cursor {
     }
 
     // Nothing follows.
-    pub fn end(self, present: usize) -> Step
+    fn end(self, present: usize) -> Step
         requires { ⌜ self .at ≤ 65536 ⌝ }
         ensures { λ r. ⌜ r ≡ endAt present self ⌝ }
     {

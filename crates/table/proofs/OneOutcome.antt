@@ -1,0 +1,17 @@
+-- For each public function, any two answers that its promise allows are equal.
+use Prim.Native.Nat.{ℕ}
+use mathlib.Core.Path.{_≡_}
+use mathlib.Core.List.{List}
+use Rattle.paper.specs.Outcome.{OneAnswer}
+use Rattle.paper.proofs.Outcome.{by-equation}
+use Rattle.table.specs.declared.Cursor.{Cursor}
+use Rattle.table.specs.Sections.{start, openAt, checked}
+
+pub check : (words : List ℕ) → OneAnswer (λ r. r ≡ checked words)
+check words = by-equation (checked words)
+
+pub cursor-new : OneAnswer (λ r. r ≡ start)
+cursor-new = by-equation start
+
+pub cursor-open : (part : List ℕ) (c : Cursor) (low high width : ℕ) → OneAnswer (λ r. r ≡ openAt part c low high width)
+cursor-open part c low high width = by-equation (openAt part c low high width)
