@@ -15,7 +15,7 @@ use Rattle.table.specs.Sections.{start, openAt, partAt}
 use Rattle.table.proofs.Opened.{opened, through}
 use Rattle.reader.specs.declared.Row.{Row}
 use Rattle.reader.specs.declared.Found.the-variants.{Here, Absent}
-use Rattle.reader.specs.Reading.{behindRows, rowBefore, rowAt}
+use Rattle.reader.specs.Reading.{behindRows, foundIn, rowAt}
 
 -- a section of at most `high` entries of so many words each, from the cursor c to the cursor d
 pub record Passed (words : List ℕ) (c d : Cursor) (high width : ℕ) : Type 0 where
@@ -51,7 +51,7 @@ is-here : (b : Bool) (x row : Row) → cond b (Here x) Absent ≡ Here row → b
 is-here true x row e = refl
 is-here false x row e = let z : _≡_ {A = ℕ} 0 1 = cc in absurd (omega arith)
 
-before-few : (words : List ℕ) (i : ℕ) (row : Row) (s : Step) → ((c : Cursor) → s ≡ Next c → RowsThere words c) → rowBefore words i s ≡ Here row → i < 4096
+before-few : (words : List ℕ) (i : ℕ) (row : Row) (s : Step) → ((c : Cursor) → s ≡ Next c → RowsThere words c) → foundIn words i s ≡ Here row → i < 4096
 before-few words i row (Halt r) there e = let z : _≡_ {A = ℕ} 0 1 = cc in absurd (omega arith)
 before-few words i row (Next c) there e =
     let t = there c refl in

@@ -8,7 +8,8 @@ use prog.Wp.{Heap}
 use ghost.Atoms.{Atoms, sem}
 use contract.Lifetimes.{Lfts, Shares, AllOutlive}
 use contract.Monad.{Fun, fact}
-use types.Kit.{Given, Item, Goal, Seq, Soaks, ‵, raw, _⊛_, ⋆, some, later, _$_, _∵_, !, qed, move, use0, use1, split, join, pick, await, updating, show, frame, done, now as at-once}
+use types.Kit.{Given, Item, Goal, Seq, Soaks, ‵, raw, _⊛_, ⋆, some, later, _$_, _∵_, ! }
+use types.Kit.{qed, move, use0, use1, split, join, pick, await, updating, show, frame, done, now as at-once}
 use denote.RattleType.{RattleType, flat}
 use denote.Laws.{Is, Ises, Are, Spells, Tellss, valss, shows}
 use denote.Signature.{typeAt, typesAt}
@@ -29,55 +30,75 @@ one-silent 𝓤 = asked 𝓤 (emp 𝓤)
 pub two-silent : {M : Type 1} (𝓤 : URA M) → ent 𝓤 (emp 𝓤) (sep 𝓤 (emp 𝓤) (sep 𝓤 (emp 𝓤) (emp 𝓤)))
 two-silent 𝓤 = via 𝓤 (sep 𝓤 (emp 𝓤) (emp 𝓤)) (one-silent 𝓤) (monoR 𝓤 (emp 𝓤) (one-silent 𝓤))
 
--- the type of the result, and the contract with what the clauses promise
-abbrev R : (T : Ended) → Lfts (T .signature .lifetimes) → RattleType
-R T κs = typeAt (T .signature .result) κs
-
+-- the contract of a signature with such clauses
 abbrev pub promised : {M : Type 1} (𝓤 : URA M) (H : Heap 𝓤) (A : Atoms 𝓤) (T : Ended) → Clauses 𝓤 T → Contract 𝓤
 promised 𝓤 H A T c = tripleOf 𝓤 H A (T .signature) (closing 𝓤 H A T c)
 
+-- at what the contract binds: the type of the result and the result, the tokens, and what is said at the end
+module _ {M : Type 1} (𝓤 : URA M) (H : Heap 𝓤) (A : Atoms 𝓤) (T : Ended) (c : Clauses 𝓤 T) (y : promised 𝓤 H A T c .Ghost) where
+  abbrev Returned : RattleType
+  Returned = typeAt (T .signature .result) (y .0 .0)
+
+  abbrev Result : Type 0
+  Result = Res (T .signature) (y .0 .0)
+
+  abbrev Alive : SProp 𝓤
+  Alive = alive 𝓤 H A (T .signature) (y .0 .0) (y .0 .1)
+
+  abbrev Last : Type 0
+  Last = Lasts T (y .0 .0) (y .0 .3)
+
+  abbrev Silent : Last → SProp 𝓤
+  Silent ws = sem 𝓤 H A (lasts T (y .0 .0) (y .0 .3) ws)
+
+  abbrev Says : Result → Last → SProp 𝓤
+  Says r ws = c (y .0 .0) (y .0 .3) .ensures (y .1) r (atExit T (y .0 .0) (y .0 .3) ws)
+
+  abbrev Ensured : Result → SProp 𝓤
+  Ensured r = ensured 𝓤 H A T c (y .0 .0) (y .0 .3) (y .1) r
+
 -- a callee leaves its result, of which its `ensures` is heard, and the lifetimes' tokens
 pub answered : {M : Type 1} {𝓤 : URA M} {H : Heap 𝓤} {A : Atoms 𝓤} {K : Type 0} {W : Given 𝓤 H A} {Γ : List (Item 𝓤)} {G : Goal 𝓤 H}
-    → K → Soaks G → (T : Ended) (c : Clauses 𝓤 T) (y : promised 𝓤 H A T c .Ghost) (φ : Res (T .signature) (y .0 .0) → Type 0)
-    → ((r : Res (T .signature) (y .0 .0)) (ws : Lasts T (y .0 .0) (y .0 .3)) → ent 𝓤 (c (y .0 .0) (y .0 .3) .ensures (y .1) r (atExit T (y .0 .0) (y .0 .3) ws)) (fact 𝓤 (φ r)))
+    → K → Soaks G → (T : Ended) (c : Clauses 𝓤 T) (y : promised 𝓤 H A T c .Ghost) (φ : Result 𝓤 H A T c y → Type 0)
+    → ((r : Result 𝓤 H A T c y) (ws : Last 𝓤 H A T c y) → ent 𝓤 (Says 𝓤 H A T c y r ws) (fact 𝓤 (φ r)))
     → (u : Val)
-    → ((r : Res (T .signature) (y .0 .0)) → φ r → Is (R T (y .0 .0)) r (u ∷ [])
-    → Seq K W (‵ (R T (y .0 .0) .own r (u ∷ [])) ∷ raw (alive 𝓤 H A (T .signature) (y .0 .0) (y .0 .1)) ∷ Γ) G)
+    → ((r : Result 𝓤 H A T c y) → φ r → Is (Returned 𝓤 H A T c y) r (u ∷ []) → Seq K W (‵ (Returned 𝓤 H A T c y .own r (u ∷ [])) ∷ raw (Alive 𝓤 H A T c y) ∷ Γ) G)
     → Seq K W (raw (promised 𝓤 H A T c .post y u) ∷ Γ) G
 answered {𝓤 = 𝓤} {H = H} {A = A} {W = W} t soaks T c y φ says u k =
+    let R : RattleType = Returned 𝓤 H A T c y in
     use1 W
-    (later (some (λ (r : Res (T .signature) (y .0 .0)).
-    (raw (alive 𝓤 H A (T .signature) (y .0 .0) (y .0 .1)) ⊛ ‵ (R T (y .0 .0) .own r (u ∷ []))) ⊛ raw (ensured 𝓤 H A T c (y .0 .0) (y .0 .3) (y .1) r))))
+    (later (some (λ (r : Result 𝓤 H A T c y). (raw (Alive 𝓤 H A T c y) ⊛ ‵ (R .own r (u ∷ []))) ⊛ raw (Ensured 𝓤 H A T c y r))))
     (id⊢ 𝓤 _) $
     await t soaks $ pick t (λ r. split t $ move t (1 ∷ []) $
-    use1 W (raw (fact 𝓤 (φ r))) (exE 𝓤 _ (λ ws. via 𝓤 _ (snd∗ 𝓤 (sem 𝓤 H A (lasts T (y .0 .0) (y .0 .3) ws)) _) (says r ws))) $
-    heard t (φ r) (λ e. split t $ move t (1 ∷ []) $ peeks t (R T (y .0 .0)) (Is (R T (y .0 .0))) (shows 𝓤 H A (R T (y .0 .0))) r (u ∷ []) (λ is. k r e is)))
+    use1 W (raw (fact 𝓤 (φ r))) (exE 𝓤 _ (λ ws. via 𝓤 _ (snd∗ 𝓤 (Silent 𝓤 H A T c y ws) _) (says r ws))) $
+    heard t (φ r) (λ e. split t $ move t (1 ∷ []) $ peeks t R (Is R) (shows 𝓤 H A R) r (u ∷ []) (λ is. k r e is)))
 
 module _ {M : Type 1} (𝓤 : URA M) (H : Heap 𝓤) (A : Atoms 𝓤) (T : Ended) (c : Clauses 𝓤 T) where
   -- a function has to leave the same
-  pub gives : (W : Given 𝓤 H A) (y : promised 𝓤 H A T c .Ghost) (u : Val) (r : Res (T .signature) (y .0 .0)) (ws : Lasts T (y .0 .0) (y .0 .3))
-      → ent 𝓤 (emp 𝓤) (sem 𝓤 H A (lasts T (y .0 .0) (y .0 .3) ws)) → ent 𝓤 (emp 𝓤) (c (y .0 .0) (y .0 .3) .ensures (y .1) r (atExit T (y .0 .0) (y .0 .3) ws))
-      → ent 𝓤 (⋆ 𝓤 H A (‵ (R T (y .0 .0) .own r (u ∷ [])) ∷ raw (alive 𝓤 H A (T .signature) (y .0 .0) (y .0 .1)) ∷ [])) (promised 𝓤 H A T c .post y u)
-  gives W y u r ws none so =
-      qed W (‵ (R T (y .0 .0) .own r (u ∷ [])) ∷ raw (alive 𝓤 H A (T .signature) (y .0 .0) (y .0 .1)) ∷ []) ∵ updating ! $ at-once ! $
-      show ! (λ (s : Res (T .signature) (y .0 .0)). sep 𝓤 (Back 𝓤 H A (T .signature) (y .0) u s) (ensured 𝓤 H A T c (y .0 .0) (y .0 .3) (y .1) s)) r $
+  pub gives : (W : Given 𝓤 H A) (y : promised 𝓤 H A T c .Ghost) (u : Val) (r : Result 𝓤 H A T c y) (ws : Last 𝓤 H A T c y)
+      → ent 𝓤 (emp 𝓤) (Silent 𝓤 H A T c y ws) → ent 𝓤 (emp 𝓤) (Says 𝓤 H A T c y r ws)
+      → ent 𝓤 (⋆ 𝓤 H A (‵ (Returned 𝓤 H A T c y .own r (u ∷ [])) ∷ raw (Alive 𝓤 H A T c y) ∷ [])) (promised 𝓤 H A T c .post y u)
+  gives W y u r ws silent so =
+      qed W (‵ (Returned 𝓤 H A T c y .own r (u ∷ [])) ∷ raw (Alive 𝓤 H A T c y) ∷ []) ∵ updating ! $ at-once ! $
+      show ! (λ (s : Result 𝓤 H A T c y). sep 𝓤 (Back 𝓤 H A (T .signature) (y .0) u s) (Ensured 𝓤 H A T c y s)) r $
       move ! (1 ∷ 0 ∷ []) $ join ! $ frame ! $
-      show ! (λ (s : Lasts T (y .0 .0) (y .0 .3)). sep 𝓤 (sem 𝓤 H A (lasts T (y .0 .0) (y .0 .3) s)) (c (y .0 .0) (y .0 .3) .ensures (y .1) r (atExit T (y .0 .0) (y .0 .3) s))) ws $
-      use0 W (‵ (lasts T (y .0 .0) (y .0 .3) ws)) none $ frame ! $
-      use0 W (raw (c (y .0 .0) (y .0 .3) .ensures (y .1) r (atExit T (y .0 .0) (y .0 .3) ws))) so $ done !
+      show ! (λ (s : Last 𝓤 H A T c y). sep 𝓤 (Silent 𝓤 H A T c y s) (Says 𝓤 H A T c y r s)) ws $
+      use0 W (raw (Silent 𝓤 H A T c y ws)) silent $ frame ! $ use0 W (raw (Says 𝓤 H A T c y r ws)) so $ done !
 
   -- it meets its contract, from a walk with the parameters' machine values in hand
-  pub meets : (run : Fun 𝓤) (sp : (κs : Lfts (T .signature .lifetimes)) → Spells (typesAt (T .signature .params) κs))
-      → ((κs : Lfts (T .signature .lifetimes)) → Tellss (typesAt (T .signature .params) κs) (Ises (typesAt (T .signature .params) κs)) (sp κs))
-      → ((κs : Lfts (T .signature .lifetimes)) (qs : Shares (T .signature .lifetimes)) (b : AllOutlive (T .signature .lifetimes) (T .signature .outlives) κs) (a : Args (T .signature) κs) (g : c κs a .ghost)
-      → Are (typesAt (T .signature .params) κs) (Ises (typesAt (T .signature .params) κs)) a (valss (typesAt (T .signature .params) κs) (sp κs) a)
-      → ent 𝓤 (onEntry 𝓤 H A (T .signature) κs qs a (valss (typesAt (T .signature .params) κs) (sp κs) a))
-      (run (flat (typesAt (T .signature .params) κs) (valss (typesAt (T .signature .params) κs) (sp κs) a))
-      (promised 𝓤 H A T c .post ((κs, qs, b, a, valss (typesAt (T .signature .params) κs) (sp κs) a), g))))
+  abbrev ParamTypes : Lfts (T .signature .lifetimes) → List RattleType
+  ParamTypes = typesAt (T .signature .params)
+
+  pub meets : (run : Fun 𝓤) (sp : (κs : Lfts (T .signature .lifetimes)) → Spells (ParamTypes κs))
+      → ((κs : Lfts (T .signature .lifetimes)) → Tellss (ParamTypes κs) (Ises (ParamTypes κs)) (sp κs))
+      → ((κs : Lfts (T .signature .lifetimes)) (qs : Shares (T .signature .lifetimes)) (b : AllOutlive (T .signature .lifetimes) (T .signature .outlives) κs)
+      (a : Args (T .signature) κs) (g : c κs a .ghost)
+      → let vs = valss (ParamTypes κs) (sp κs) a in Are (ParamTypes κs) (Ises (ParamTypes κs)) a vs
+      → ent 𝓤 (onEntry 𝓤 H A (T .signature) κs qs a vs) (run (flat (ParamTypes κs) vs) (promised 𝓤 H A T c .post ((κs, qs, b, a, vs), g))))
       → Triple 𝓤 run (promised 𝓤 H A T c)
   meets run sp tl walk y =
       let Entry : SProp 𝓤 = onEntry 𝓤 H A (T .signature) (y .0 .0) (y .0 .1) (y .0 .3) (y .0 .4) in
       via 𝓤 Entry (fst∗ 𝓤 Entry (c (y .0 .0) (y .0 .3) .requires (y .1)))
       (said 𝓤 H A (T .signature) (y .0 .0) (y .0 .1) (sp (y .0 .0)) (tl (y .0 .0)) (y .0 .3)
-      (λ us. run (flat (typesAt (T .signature .params) (y .0 .0)) us) (promised 𝓤 H A T c .post ((y .0 .0, y .0 .1, y .0 .2, y .0 .3, us), y .1)))
+      (λ us. run (flat (ParamTypes (y .0 .0)) us) (promised 𝓤 H A T c .post ((y .0 .0, y .0 .1, y .0 .2, y .0 .3, us), y .1)))
       (y .0 .4) (walk (y .0 .0) (y .0 .1) (y .0 .2) (y .0 .3) (y .1)))

@@ -4,3 +4,4 @@ pub mod OneOutcome
 pub mod Example
 pub mod Calls
 pub mod Parts
+pub mod Thin

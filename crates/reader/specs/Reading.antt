@@ -34,13 +34,13 @@ abbrev pub rowOf : List ℕ → ℕ → Row
 rowOf rows i = record { label = ℓ i; kind = kindOf rows i; arg = argOf rows i; end = ℓ (endOf rows i); from = fromOf rows i }
 
 -- a label from 0 to N-1 has its row, and any other none
-abbrev pub rowBefore : List ℕ → ℕ → Step → Found
-rowBefore words i (Halt r) = Absent
-rowBefore words i (Next c) = cond (ltb i (c .count)) (Here (rowOf (rowsBefore words c) i)) Absent
+abbrev pub foundIn : List ℕ → ℕ → Step → Found
+foundIn words i (Halt r) = Absent
+foundIn words i (Next c) = cond (ltb i (c .count)) (Here (rowOf (rowsBefore words c) i)) Absent
 
 -- the row with label i
 unfoldable pub rowAt : List ℕ → ℕ → Found
-rowAt words i = rowBefore words i (behindRows words)
+rowAt words i = foundIn words i (behindRows words)
 
 -- The label behind row i's subtree, "one more than the last label": its end. An end that is not behind the row is no end of a
 -- subtree, and the next label is taken. Where there is no row, the label stays.

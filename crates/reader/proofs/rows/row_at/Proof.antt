@@ -29,7 +29,8 @@ module _ (c : tie.After-rows) where
   abbrev opened-of : tie.After-opened
   opened-of = c .before .before .before .before
 
-  four : let d = opened-of .opened .given .0 .0 in 4 * c .before .before .before .before .before .before .before .before .args .label + 4 ≤ length (take (length (words opened-of) - (d .at - 4 * d .count)) (rowsBefore (words opened-of) d))
+  four : let ws = words opened-of in let d = opened-of .opened .given .0 .0 in let i = opened-of .before .before .before .before .args .label in
+      4 * i + 4 ≤ length (take (length ws - (d .at - 4 * d .count)) (rowsBefore ws d))
   four = let t = there opened-of in let s = c .before .before .if1 .left in rw (rest, length-drop) (omega arith)
 
 behind-rows-requires : tie.Need-behind-rows-requires
