@@ -5,3 +5,4 @@ pub mod Example
 pub mod Calls
 pub mod Parts
 pub mod Thin
+pub mod Ensures
