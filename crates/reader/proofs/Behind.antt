@@ -46,16 +46,16 @@ rows-there words c e =
     let p = passes words (u .mid) c 1 4096 4 (u .went) in
     record { few = p .most; room = omega arith; within = p .within }
 
--- a label that has a row is below N, and so below 4,096
-is-here : (b : Bool) (x row : Row) → cond b (Here x) Absent ≡ Here row → b ≡ true
-is-here true x row e = refl
-is-here false x row e = let z : _≡_ {A = ℕ} 0 1 = cc in absurd (omega arith)
+-- a label that has a row passed the test for N, so that it is below 4,096
+here-by : (b : Bool) (x row : Row) → cond b (Here x) Absent ≡ Here row → b ≡ true
+here-by true x row e = refl
+here-by false x row e = let z : _≡_ {A = ℕ} 0 1 = cc in absurd (omega arith)
 
 before-few : (words : List ℕ) (i : ℕ) (row : Row) (s : Step) → ((c : Cursor) → s ≡ Next c → RowsThere words c) → foundIn words i s ≡ Here row → i < 4096
 before-few words i row (Halt r) there e = let z : _≡_ {A = ℕ} 0 1 = cc in absurd (omega arith)
 before-few words i row (Next c) there e =
     let t = there c refl in
-    omega (arith, ltb-true i (c .count) (is-here (ltb i (c .count)) _ row e))
+    omega (arith, ltb-true i (c .count) (here-by (ltb i (c .count)) _ row e))
 
 pub here-few : (words : List ℕ) (i : ℕ) (row : Row) → rowAt words i ≡ Here row → i < 4096
 unfolding rowAt

@@ -34,7 +34,8 @@ two-silent 𝓤 = via 𝓤 (sep 𝓤 (emp 𝓤) (emp 𝓤)) (one-silent 𝓤) (m
 abbrev pub promised : {M : Type 1} (𝓤 : URA M) (H : Heap 𝓤) (A : Atoms 𝓤) (T : Ended) → Clauses 𝓤 T → Contract 𝓤
 promised 𝓤 H A T c = tripleOf 𝓤 H A (T .signature) (closing 𝓤 H A T c)
 
--- at what the contract binds: the type of the result and the result, the tokens, and what is said at the end
+-- At what the contract binds: the type of the result and the result, the tokens, what is said of the parameters at the end,
+-- which is nothing where there is no `&mut`, and what the clauses say of the result.
 module _ {M : Type 1} (𝓤 : URA M) (H : Heap 𝓤) (A : Atoms 𝓤) (T : Ended) (c : Clauses 𝓤 T) (y : promised 𝓤 H A T c .Ghost) where
   abbrev Returned : RattleType
   Returned = typeAt (T .signature .result) (y .0 .0)
@@ -45,13 +46,13 @@ module _ {M : Type 1} (𝓤 : URA M) (H : Heap 𝓤) (A : Atoms 𝓤) (T : Ended
   abbrev Alive : SProp 𝓤
   Alive = alive 𝓤 H A (T .signature) (y .0 .0) (y .0 .1)
 
-  abbrev Last : Type 0
-  Last = Lasts T (y .0 .0) (y .0 .3)
+  abbrev Ends : Type 0
+  Ends = Lasts T (y .0 .0) (y .0 .3)
 
-  abbrev Silent : Last → SProp 𝓤
-  Silent ws = sem 𝓤 H A (lasts T (y .0 .0) (y .0 .3) ws)
+  abbrev Unsaid : Ends → SProp 𝓤
+  Unsaid ws = sem 𝓤 H A (lasts T (y .0 .0) (y .0 .3) ws)
 
-  abbrev Says : Result → Last → SProp 𝓤
+  abbrev Says : Result → Ends → SProp 𝓤
   Says r ws = c (y .0 .0) (y .0 .3) .ensures (y .1) r (atExit T (y .0 .0) (y .0 .3) ws)
 
   abbrev Ensured : Result → SProp 𝓤
@@ -60,7 +61,7 @@ module _ {M : Type 1} (𝓤 : URA M) (H : Heap 𝓤) (A : Atoms 𝓤) (T : Ended
 -- a callee leaves its result, of which its `ensures` is heard, and the lifetimes' tokens
 pub answered : {M : Type 1} {𝓤 : URA M} {H : Heap 𝓤} {A : Atoms 𝓤} {K : Type 0} {W : Given 𝓤 H A} {Γ : List (Item 𝓤)} {G : Goal 𝓤 H}
     → K → Soaks G → (T : Ended) (c : Clauses 𝓤 T) (y : promised 𝓤 H A T c .Ghost) (φ : Result 𝓤 H A T c y → Type 0)
-    → ((r : Result 𝓤 H A T c y) (ws : Last 𝓤 H A T c y) → ent 𝓤 (Says 𝓤 H A T c y r ws) (fact 𝓤 (φ r)))
+    → ((r : Result 𝓤 H A T c y) (ws : Ends 𝓤 H A T c y) → ent 𝓤 (Says 𝓤 H A T c y r ws) (fact 𝓤 (φ r)))
     → (u : Val)
     → ((r : Result 𝓤 H A T c y) → φ r → Is (Returned 𝓤 H A T c y) r (u ∷ []) → Seq K W (‵ (Returned 𝓤 H A T c y .own r (u ∷ [])) ∷ raw (Alive 𝓤 H A T c y) ∷ Γ) G)
     → Seq K W (raw (promised 𝓤 H A T c .post y u) ∷ Γ) G
@@ -70,20 +71,20 @@ answered {𝓤 = 𝓤} {H = H} {A = A} {W = W} t soaks T c y φ says u k =
     (later (some (λ (r : Result 𝓤 H A T c y). (raw (Alive 𝓤 H A T c y) ⊛ ‵ (R .own r (u ∷ []))) ⊛ raw (Ensured 𝓤 H A T c y r))))
     (id⊢ 𝓤 _) $
     await t soaks $ pick t (λ r. split t $ move t (1 ∷ []) $
-    use1 W (raw (fact 𝓤 (φ r))) (exE 𝓤 _ (λ ws. via 𝓤 _ (snd∗ 𝓤 (Silent 𝓤 H A T c y ws) _) (says r ws))) $
+    use1 W (raw (fact 𝓤 (φ r))) (exE 𝓤 _ (λ ws. via 𝓤 _ (snd∗ 𝓤 (Unsaid 𝓤 H A T c y ws) _) (says r ws))) $
     heard t (φ r) (λ e. split t $ move t (1 ∷ []) $ peeks t R (Is R) (shows 𝓤 H A R) r (u ∷ []) (λ is. k r e is)))
 
 module _ {M : Type 1} (𝓤 : URA M) (H : Heap 𝓤) (A : Atoms 𝓤) (T : Ended) (c : Clauses 𝓤 T) where
   -- a function has to leave the same
-  pub gives : (W : Given 𝓤 H A) (y : promised 𝓤 H A T c .Ghost) (u : Val) (r : Result 𝓤 H A T c y) (ws : Last 𝓤 H A T c y)
-      → ent 𝓤 (emp 𝓤) (Silent 𝓤 H A T c y ws) → ent 𝓤 (emp 𝓤) (Says 𝓤 H A T c y r ws)
+  pub gives : (W : Given 𝓤 H A) (y : promised 𝓤 H A T c .Ghost) (u : Val) (r : Result 𝓤 H A T c y) (ws : Ends 𝓤 H A T c y)
+      → ent 𝓤 (emp 𝓤) (Unsaid 𝓤 H A T c y ws) → ent 𝓤 (emp 𝓤) (Says 𝓤 H A T c y r ws)
       → ent 𝓤 (⋆ 𝓤 H A (‵ (Returned 𝓤 H A T c y .own r (u ∷ [])) ∷ raw (Alive 𝓤 H A T c y) ∷ [])) (promised 𝓤 H A T c .post y u)
   gives W y u r ws silent so =
       qed W (‵ (Returned 𝓤 H A T c y .own r (u ∷ [])) ∷ raw (Alive 𝓤 H A T c y) ∷ []) ∵ updating ! $ at-once ! $
       show ! (λ (s : Result 𝓤 H A T c y). sep 𝓤 (Back 𝓤 H A (T .signature) (y .0) u s) (Ensured 𝓤 H A T c y s)) r $
       move ! (1 ∷ 0 ∷ []) $ join ! $ frame ! $
-      show ! (λ (s : Last 𝓤 H A T c y). sep 𝓤 (Silent 𝓤 H A T c y s) (Says 𝓤 H A T c y r s)) ws $
-      use0 W (raw (Silent 𝓤 H A T c y ws)) silent $ frame ! $ use0 W (raw (Says 𝓤 H A T c y r ws)) so $ done !
+      show ! (λ (s : Ends 𝓤 H A T c y). sep 𝓤 (Unsaid 𝓤 H A T c y s) (Says 𝓤 H A T c y r s)) ws $
+      use0 W (raw (Unsaid 𝓤 H A T c y ws)) silent $ frame ! $ use0 W (raw (Says 𝓤 H A T c y r ws)) so $ done !
 
   -- it meets its contract, from a walk with the parameters' machine values in hand
   abbrev ParamTypes : Lfts (T .signature .lifetimes) → List RattleType
