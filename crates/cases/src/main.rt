@@ -3,8 +3,10 @@
 // The list is text on standard input, one case a line: NAME REQUEST [NUMBERS] : WORDS. `check` asks the table layer, and
 // prints `sound` with V, R, N and S; `judge` prints `accepted` with V, N, S and the transitions; `order LEN`,
 // `transition K LEN` and `assignments K LEN` print `filled` with the count, and after a colon what the slice of LEN that they
-// were lent holds. A refusal prints `refused` with number and place. Fields are parted by spaces, commas or semicolons. `#`
-// starts a comment line; an empty line is passed over. Of a malformed line the column is printed where that shows.
+// were lent holds. A refusal prints `refused` with number and place. `row LABEL` and `past LABEL` ask the table reader for the
+// row with that label and for the one behind its subtree, and print `row` with label, kind, arg, end and from, or `absent`.
+// Fields are parted by spaces, commas or semicolons. `#` starts a comment line; an empty line is passed over. Of a malformed
+// line the column is printed where that shows.
 mod heading; // what stands between a request and the words
 mod lent; // the requests that fill a lent slice
 mod requests; // the requests, and what is printed of their answers

@@ -4,6 +4,7 @@ use crate::lent;
 use crate::scan::is_word;
 use crate::write;
 use answers::Answer;
+use reader::Found;
 use table::Checked;
 
 pub enum Request {
@@ -12,6 +13,8 @@ pub enum Request {
     Order,
     Transition,
     Assignments,
+    Row,
+    Past,
     Unknown,
 }
 
@@ -32,21 +35,27 @@ pub fn request_of(field: &[u8]) -> Request {
     if is_word(field, b"assignments") {
         return Request::Assignments;
     }
+    if is_word(field, b"row") {
+        return Request::Row;
+    }
+    if is_word(field, b"past") {
+        return Request::Past;
+    }
     Request::Unknown
 }
 
 // Whether a request can be made with the numbers of a heading.
 pub fn takes(request: Request, heading: Heading) -> bool {
     let numbers = heading.numbers;
-    if lent::ROOM < heading.len {
-        return false;
-    }
+    let lendable = heading.len <= lent::ROOM;
     match request {
         Request::Check => numbers == 0,
         Request::Judge => numbers == 0,
-        Request::Order => numbers == 1,
-        Request::Transition => numbers == 2,
-        Request::Assignments => numbers == 2,
+        Request::Order => lendable && numbers == 1,
+        Request::Transition => lendable && numbers == 2,
+        Request::Assignments => lendable && numbers == 2,
+        Request::Row => numbers == 1,
+        Request::Past => numbers == 1,
         Request::Unknown => false,
     }
 }
@@ -59,6 +68,8 @@ pub fn run(request: Request, heading: Heading, words: &[u16]) {
         Request::Order => lent::order(words, heading.len),
         Request::Transition => lent::transition(words, heading.k, heading.len),
         Request::Assignments => lent::assignments(words, heading.k, heading.len),
+        Request::Row => row(reader::row_of(words, heading.len)),
+        Request::Past => row(reader::row_past(words, heading.len)),
         Request::Unknown => {}
     }
 }
@@ -90,5 +101,20 @@ fn judge(words: &[u16]) {
             write::number(c.transitions);
         }
         Answer::Refused(r) => write::refusal(r),
+    }
+}
+
+// What the table reader finds.
+fn row(found: Found) {
+    match found {
+        Found::Here(r) => {
+            write::text(b" row");
+            write::number(r.label.0 as usize);
+            write::number(r.kind as usize);
+            write::number(r.arg as usize);
+            write::number(r.end.0 as usize);
+            write::number(r.from as usize);
+        }
+        Found::Absent => write::text(b" absent"),
     }
 }
