@@ -4,7 +4,7 @@ use Prim.Native.Nat.{ℕ, _-_, _<_, _≤_}
 use native.Mathlib.Omega.{arith}
 use mathlib.Core.Path.{_≡_, refl, sym, ap, subst, _∙_}
 use mathlib.Core.Bool.{Bool, true, false}
-use mathlib.Core.List.{List, _∷_}
+use mathlib.Core.List.{List, [], _∷_}
 use lib.ListN.{length, set}
 use Rattle.paper.specs.declared.Label.{Label}
 use Rattle.paper.specs.Formula.{ℓ}
@@ -20,9 +20,9 @@ use Rattle.counting.specs.Keys.{total, keysAt}
 use Rattle.counting.proofs.KeysUnder.{totalsFrom, numbers-step}
 use Rattle.transitions.specs.declared.Shares.{Shares}
 use Rattle.transitions.specs.declared.Turn.{Turn}
-use Rattle.transitions.specs.Kept.{CanTake, turnOf, sharesOf, markedBy, Keepable, KeptAfter}
+use Rattle.transitions.specs.Kept.{CanTake, turnOf, sharesOf, isDone, markedBy, Keepable, KeptAfter}
 use Rattle.transitions.proofs.Sharing.{Fits, fits-take, fits-next, fits-on}
-use Rattle.transitions.proofs.KeptRows.{kept-none, kept-lone, eachUnder, keptIn, keptFrom, kept-step, kept-end, fits-under, kept-under}
+use Rattle.transitions.proofs.KeptRows.{kept-none, kept-lone, eachUnder, keptIn, keptFrom, kept-step, kept-end, kept-done, fits-under, kept-under}
 use Rattle.transitions.proofs.MarkedBytes.{marked-append}
 
 -- a walk that does not take place sets nothing, and a leaf's walk sets its own byte
@@ -50,33 +50,47 @@ pub record Taking (rows marks : List ℕ) (#N left : ℕ) (out₀ : List ℕ) (s
       → markedBy (keptFrom A rows marks reads (left - 1) s m (c .0)) out ≡ markedBy (keptFrom A rows marks reads (left - 1) s₀ m₀ (c₀ .0)) out₀
 
 -- at row i, whose kind word is that of a join, for key k
-module _ {rows marks : List ℕ} {#N i left k kind m₀ : ℕ} {c₀ : Label} {s₀ : Shares} {out₀ : List ℕ} {on : Bool} (e : kind ≡ kindOf rows i) (join : 2 < kind)
-    (deep : left ≡ 0 → ⊥) (p : Keepable rows marks out₀ #N i left k on) (is-on : on ≡ true) {keys : Distinct} (keys-is : keys ≡ keysAt rows marks left i)
-    (s-is : s₀ ≡ sharesOf (eachUnder kind) keys k) (m-is : m₀ ≡ expressionsAt rows i) (c-is : c₀ ≡ ℓ (firstAt rows i)) where
+module _ {rows marks : List ℕ} {#N i left k kind m₀ : ℕ} {c₀ : Label} {s₀ : Shares} {out₀ : List ℕ} {own : Distinct} {on : Bool} (e : kind ≡ kindOf rows i) (join : 2 < kind)
+    (deep : left ≡ 0 → ⊥) (p : Keepable rows marks out₀ #N i left own k on) (is-on : on ≡ true) (s-is : s₀ ≡ sharesOf (eachUnder kind) own k) (m-is : m₀ ≡ expressionsAt rows i)
+    (c-is : c₀ ≡ ℓ (firstAt rows i)) where
+  few : total (keysAt rows marks left i) ≤ 65535
+  few = rw (p .own-are) at (p .few is-on)
+
+  among : k < total (keysAt rows marks left i)
+  among = rw (p .own-are) at (p .among is-on)
+
   -- it holds as the loop begins
   pub taking-begins : Taking rows marks #N left out₀ s₀ c₀ m₀ out₀ s₀ c₀ m₀
   taking-begins = record {
     same-length = refl;
     along = rw (m-is, number-of c-is) (along-under (p .walkable));
-    fits = rw (m-is, number-of c-is, s-is, keys-is, e) (fits-under marks left k (p .walkable) deep (omega arith) (p .few is-on) (p .among is-on));
+    fits = rw (m-is, number-of c-is, s-is, p .own-are, e) (fits-under marks left k (p .walkable) deep (omega arith) few among);
     marks-all = λ A marked reads. refl;
   }
 
-  -- with no expression left, the bytes are those of key k
-  pub taking-ends : {out : List ℕ} {s : Shares} {c : Label} {m : ℕ} → Taking rows marks #N left out₀ s₀ c₀ m₀ out s c m → m ≤ 0
-      → KeptAfter rows marks left i k on out₀ out
+  -- once those still to come keep nothing, the bytes are those of key k
+  taking-stops : {out : List ℕ} {s : Shares} {c : Label} {m : ℕ} → Taking rows marks #N left out₀ s₀ c₀ m₀ out s c m
+      → ((A : List Label) (reads : List ℕ) → keptFrom A rows marks reads (left - 1) s m (c .0) ≡ []) → KeptAfter rows marks left i k on out₀ out
   unfolding markedBy
-  taking-ends {out} {s} {c} {m} t done = record {
+  taking-stops {out} t none = record {
     bytes-are = λ A marked reads. rw is-on
-        (ap (λ ls. markedBy ls out) (sym (kept-end A rows marks reads (left - 1) s m (c .0) (omega arith))) ∙ t .marks-all A marked reads
-        ∙ ap (λ ls. markedBy ls out₀) (sym (all A marked reads)));
+        (ap (λ ls. markedBy ls out) (sym (none A reads)) ∙ t .marks-all A marked reads ∙ ap (λ ls. markedBy ls out₀) (sym (all A marked reads)));
   }
     where
       all : (A : List Label) → Marked A marks → (reads : List ℕ)
           → keptAt A (formulaAt rows reads left i) k ≡ keptFrom A rows marks reads (left - 1) s₀ m₀ (c₀ .0)
       all A marked reads =
-          rw (m-is, number-of c-is, s-is, keys-is, e)
-          (kept-under marks left k (p .walkable) deep (omega arith) (p .few is-on) (p .among is-on) A marked reads)
+          rw (m-is, number-of c-is, s-is, p .own-are, e)
+          (kept-under marks left k (p .walkable) deep (omega arith) few among A marked reads)
+
+  -- so with no expression left, and where none of those left takes part
+  pub taking-ends : {out : List ℕ} {s : Shares} {c : Label} {m : ℕ} → Taking rows marks #N left out₀ s₀ c₀ m₀ out s c m → m ≤ 0
+      → KeptAfter rows marks left i k on out₀ out
+  taking-ends {s = s} {c} {m} t done = taking-stops t (λ A reads. kept-end A rows marks reads (left - 1) s m (c .0) (omega arith))
+
+  pub taking-done : {out : List ℕ} {s : Shares} {c : Label} {m : ℕ} → Taking rows marks #N left out₀ s₀ c₀ m₀ out s c m → isDone s ≡ true
+      → KeptAfter rows marks left i k on out₀ out
+  taking-done {s = s} {c} {m} t done = taking-stops t (λ A reads. kept-done A rows marks reads (left - 1) s m (c .0) done)
 
 module _ {rows marks : List ℕ} {#N left : ℕ} {out₀ : List ℕ} {s₀ : Shares} {c₀ : Label} {m₀ : ℕ} {out : List ℕ} {s : Shares} {c : Label} {m : ℕ}
     (t : Taking rows marks #N left out₀ s₀ c₀ m₀ out s c m) (some : 0 < m) where
@@ -93,8 +107,11 @@ module _ {rows marks : List ℕ} {#N left : ℕ} {out₀ : List ℕ} {s₀ : Sha
   fits-here : Fits s (own ∷ others)
   fits-here = subst (Fits s) (numbers-step _ rows m (c .0) some) (t .fits)
 
-  -- the child there has n keys, and its turn is u
-  module _ {n : ℕ} (n-is : n ≡ own) where
+  -- the child there has these keys, n in number, and its turn is u
+  module _ {keys : Distinct} (keys-are : keys ≡ keysAt rows marks (left - 1) (c .0)) {n : ℕ} (counted : n ≡ total keys) where
+    n-is : n ≡ own
+    n-is = counted ∙ ap total keys-are
+
     pub taking-take : CanTake s n
     taking-take = subst (CanTake s) (sym n-is) (fits-take own others s fits-here)
 
@@ -103,12 +120,13 @@ module _ {rows marks : List ℕ} {#N left : ℕ} {out₀ : List ℕ} {s₀ : Sha
       turn-here = u-is ∙ ap (turnOf s) n-is
 
       -- it is asked only for a key of its own
-      pub taking-asks : #N ≤ length out₀ → Keepable rows marks out #N (c .0) (left - 1) (u .key) (u .on)
+      pub taking-asks : #N ≤ length out₀ → Keepable rows marks out #N (c .0) (left - 1) keys (u .key) (u .on)
       taking-asks room = record {
         walkable = taking-on;
         room = let e = t .same-length in omega arith;
-        few = λ on. fits-on own others s fits-here (sym (ap (λ u. u .on) turn-here) ∙ on) .0;
-        among = λ on. rw turn-here (fits-on own others s fits-here (sym (ap (λ u. u .on) turn-here) ∙ on) .1);
+        own-are = keys-are;
+        few = λ on. rw keys-are (fits-on own others s fits-here (sym (ap (λ u. u .on) turn-here) ∙ on) .0);
+        among = λ on. rw (keys-are, turn-here) (fits-on own others s fits-here (sym (ap (λ u. u .on) turn-here) ∙ on) .1);
       }
 
       -- and after it, with what it keeps set and c moved to its end, it holds again
