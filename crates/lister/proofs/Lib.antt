@@ -1,0 +1,3 @@
+pub mod BytePairs
+pub mod BytesJudged
+pub mod LinesPut
