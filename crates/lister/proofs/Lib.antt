@@ -1,3 +1,4 @@
 pub mod BytePairs
 pub mod BytesJudged
 pub mod LinesPut
+pub mod Example

@@ -23,11 +23,16 @@ pub record WordsIn (bytes lent left : List ℕ) (count : ℕ) : Type 0 where
   pub half : count ≡ length bytes / 2
   pub stand : left ≡ copied (wordsOf bytes) count lent
 
--- the answer to the bytes; of accepted ones, the words and the order stand in front
+-- the words of accepted bytes, and their reported order, each in front
+pub record Ready (bytes words order : List ℕ) (a : Accepted) : Type 0 where
+  pub words-stand : take (length bytes / 2) words ≡ wordsOf bytes
+  pub ordered : Ordered (wordsOf bytes) a order
+  pub order-long : length order ≡ 2048
+
+-- the answer to the bytes, and what is ready where they are accepted
 pub record JudgedBytes (bytes words order : List ℕ) (r : Judged) : Type 0 where
   pub answered : r ≡ judgedBytes bytes
-  pub words-stand : (a : Accepted) → r ≡ judged.Accepted a → take (length bytes / 2) words ≡ wordsOf bytes
-  pub order-stands : (a : Accepted) → r ≡ judged.Accepted a → Ordered (wordsOf bytes) a order
+  pub ready : (a : Accepted) → r ≡ judged.Accepted a → Ready bytes words order a
 
 -- counts that fit, an order of so many labels, and room for two lines
 pub record Headed (a : Accepted) (order text : List ℕ) : Type 0 where

@@ -2,10 +2,10 @@
 ghost use mathlib.Core.Path.{_≡_};
 ghost use lib.ListN.{length};
 ghost use Rattle.nocturenc.specs.Requests.{Ordered};
-use counting::keys::keys_of;
-use counting::marks::marks_of;
 use crate::lines::put_head;
 use crate::lines::put_lines;
+use counting::keys::keys_of;
+use counting::marks::marks_of;
 use libc::STDOUT_FILENO;
 use listing::put_refused;
 use paper::Label;

@@ -1,53 +1,42 @@
+-- Accepted bytes are listed by their words and their order, which the judgement leaves.
+use mathlib.Core.Path.{sym}
 use borrow.Author.Needs.{needs}
+use lib.Seq.{length-take-le}
 use Rattle.lister.proofs.list.Statement.{statement}
 use Rattle.lister.proofs.list.Tie as tie
-use Rattle.lister.proofs.list.Reads as reads
-use Rattle.lister.proofs.list.Lts as lts
-use Rattle.lister.proofs.judging.judge_bytes.Reads as judge-bytes-reads
-use Rattle.lister.proofs.parts.list_accepted.Reads as list-accepted-reads
-use Rattle.lister.proofs.parts.list_refused.Reads as list-refused-reads
 
--- src/main.rt:22:37
 slice-aggregate-judge-bytes : tie.Need-slice-aggregate-judge-bytes
 slice-aggregate-judge-bytes c = search needs
 
--- src/main.rt:22:9
 judge-bytes-requires : tie.Need-judge-bytes-requires
 judge-bytes-requires c κs = search needs
 
--- src/main.rt:24:26
 enum-known-judged : tie.Need-enum-known-judged
 enum-known-judged c = search needs
 
--- src/main.rt:26:27
 array-share-prefix-words : tie.Need-array-share-prefix-words
 array-share-prefix-words c = search needs
 
--- src/main.rt:26:27
 slice-aggregate-list-accepted : tie.Need-slice-aggregate-list-accepted
-slice-aggregate-list-accepted c = ?
+slice-aggregate-list-accepted c = sym (length-take-le _ _ (search needs))
 
--- src/main.rt:26:47
 slice-aggregate-list-accepted-2 : tie.Need-slice-aggregate-list-accepted-2
-slice-aggregate-list-accepted-2 c = ?
+slice-aggregate-list-accepted-2 c = sym (c .before .before .before .before .before .before .judge-bytes .ensures .ready _ (c .before .before .before .judged .given .1) .order-long)
 
--- src/main.rt:26:13
 list-accepted-requires : tie.Need-list-accepted-requires
-list-accepted-requires c κs = ?
+list-accepted-requires c κs =
+    let r = c .before .before .before .before .before .before .judge-bytes .ensures .ready _ (c .before .before .before .judged .given .1) in
+    rw (r .words-stand) (r .ordered)
 
--- src/main.rt:28:25
 enum-known-judged-2 : tie.Need-enum-known-judged-2
 enum-known-judged-2 c = search needs
 
--- src/main.rt:28:31
 list-refused-requires : tie.Need-list-refused-requires
 list-refused-requires c κs = search needs
 
--- src/main.rt:17:1
 returns : tie.Need-returns
 returns c = search needs
 
--- src/main.rt:17:1
 returns-2 : tie.Need-returns-2
 returns-2 c = search needs
 

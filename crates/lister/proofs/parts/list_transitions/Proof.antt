@@ -1,105 +1,92 @@
+-- Each turn puts the lines of at least one transition and writes them; the number of those left falls.
+use Prim.Native.Nat.{_-_, _≤_}
+use native.Mathlib.Omega.{arith}
+use mathlib.Core.Path.{_≡_, refl, sym, _∙_}
+use borrow.Author.Needs.{needs}
+use lib.ListN.{length}
+use lib.Seq.{length-take-le}
+use Rattle.nocturenc.proofs.Keeping.{parts-reached, rows-fit, lent-below, lent-walkable}
+use Rattle.listing.proofs.Placing.{put-length}
+use Rattle.lister.proofs.BytesJudged.{listable, line-room}
 use Rattle.lister.proofs.parts.list_transitions.Statement.{statement}
 use Rattle.lister.proofs.parts.list_transitions.Tie as tie
-use Rattle.lister.proofs.parts.list_transitions.Reads as reads
-use Rattle.lister.proofs.parts.list_transitions.Lts as lts
-use Rattle.counting.proofs.keys.keys_of.Reads as keys-of-reads
-use Rattle.counting.proofs.marks.marks_of.Reads as marks-of-reads
-use Rattle.io.proofs.write_all.Reads as write-all-reads
-use Rattle.lister.proofs.lines.put_lines.Reads as put-lines-reads
 
 abbrev Inv-loop : tie.InvT-loop
-Inv-loop words a order text₀ rows chosen count marks own k₀ text k = ?
+Inv-loop words a order text₀ rows chosen count marks own k₀ text k = (k ≤ a .transitions) × (length text ≡ length text₀)
 
 abbrev μ-loop : tie.MeasureT-loop
-μ-loop words a order text₀ rows chosen count marks own k₀ text k = ?
+μ-loop words a order text₀ rows chosen count marks own k₀ text k = a .transitions - k
 
--- src/parts.rt:41:26
 mul-marks-of : tie.Need-mul-marks-of Inv-loop μ-loop
-mul-marks-of c = ?
+mul-marks-of c = let r = parts-reached _ _ (c .before .before .before .before .pre .0 .accepted) in omega arith
 
--- src/parts.rt:41:26
 sub-marks-of : tie.Need-sub-marks-of Inv-loop μ-loop
-sub-marks-of c = ?
+sub-marks-of c = let r = parts-reached _ _ (c .before .before .before .before .pre .0 .accepted) in omega arith
 
--- src/parts.rt:41:26
 part-marks-of-start : tie.Need-part-marks-of-start Inv-loop μ-loop
-part-marks-of-start c = ?
+part-marks-of-start c = let r = parts-reached _ _ (c .before .before .before .before .pre .0 .accepted) in omega arith
 
--- src/parts.rt:41:26
 part-marks-of-end : tie.Need-part-marks-of-end Inv-loop μ-loop
-part-marks-of-end c = ?
+part-marks-of-end c = search needs
 
--- src/parts.rt:41:17
 marks-of-requires : tie.Need-marks-of-requires Inv-loop μ-loop
-marks-of-requires c κs = ?
+marks-of-requires c κs = let e = c .before .before .before .before .before .pre .0 .accepted in lent-below _ _ e 4096 (rows-fit _ _ e)
 
--- src/parts.rt:42:23
 mul-keys-of : tie.Need-mul-keys-of Inv-loop μ-loop
-mul-keys-of c = ?
+mul-keys-of c = let r = parts-reached _ _ (c .before .before .before .before .before .before .pre .0 .accepted) in omega arith
 
--- src/parts.rt:42:23
 sub-keys-of : tie.Need-sub-keys-of Inv-loop μ-loop
-sub-keys-of c = ?
+sub-keys-of c = let r = parts-reached _ _ (c .before .before .before .before .before .before .pre .0 .accepted) in omega arith
 
--- src/parts.rt:42:23
 part-keys-of-start : tie.Need-part-keys-of-start Inv-loop μ-loop
-part-keys-of-start c = ?
+part-keys-of-start c = let r = parts-reached _ _ (c .before .before .before .before .before .before .pre .0 .accepted) in omega arith
 
--- src/parts.rt:42:23
 part-keys-of-end : tie.Need-part-keys-of-end Inv-loop μ-loop
-part-keys-of-end c = ?
+part-keys-of-end c = search needs
 
--- src/parts.rt:42:47
 cast-keys-of : tie.Need-cast-keys-of Inv-loop μ-loop
-cast-keys-of c = ?
+cast-keys-of c = let r = rows-fit _ _ (c .before .before .before .before .before .before .before .before .before .pre .0 .accepted) in search needs
 
--- src/parts.rt:42:9
 keys-of-requires : tie.Need-keys-of-requires Inv-loop μ-loop
-keys-of-requires c κs = ?
+keys-of-requires c κs = lent-walkable _ _ (c .before .before .before .before .before .before .before .before .before .pre .0 .accepted)
 
--- src/parts.rt:44:5
 loop-holds : tie.Need-loop-holds Inv-loop μ-loop
-loop-holds c = ?
+loop-holds c = (omega arith, refl)
 
--- src/parts.rt:45:13
 put-lines-requires : tie.Need-put-lines-requires Inv-loop μ-loop
-put-lines-requires c κs = ?
+put-lines-requires c κs =
+    let s = c .before .before .before .before .before .before .before .before .before .before .before .before .before .before in
+    let i = c .before .before .before .loop .inv in
+    (listable (s .pre .0) (c .before .before .before .before .before .before .before .before .marks-of .ensures) (c .before .before .before .before .keys-of .ensures .0), c .before .before .loop-test .taken, line-room (s .pre .0) _ (i .1 ∙ s .pre .1))
 
--- src/parts.rt:47:42
 slice-reshare-prefix-write-all : tie.Need-slice-reshare-prefix-write-all Inv-loop μ-loop
-slice-reshare-prefix-write-all c = ?
+slice-reshare-prefix-write-all c = let p = c .before .before .put-lines .ensures .put in omega (arith, p .within, put-length p)
 
--- src/parts.rt:47:42
 slice-aggregate-write-all : tie.Need-slice-aggregate-write-all Inv-loop μ-loop
-slice-aggregate-write-all c = ?
+slice-aggregate-write-all c =
+    let p = c .before .before .before .put-lines .ensures .put in
+    sym (length-take-le _ _ (omega (arith, p .within, put-length p)))
 
--- src/parts.rt:47:13
 write-all-requires : tie.Need-write-all-requires Inv-loop μ-loop
-write-all-requires c κs = ?
+write-all-requires c κs = search needs
 
--- src/parts.rt:48:13
 same-length : tie.Need-same-length Inv-loop μ-loop
-same-length c = ?
+same-length c = put-length (c .before .before .before .before .before .put-lines .ensures .put) ∙ c .before .before .before .before .before .before .before .before .before .loop .inv .1
 
--- src/parts.rt:48:13
 returns : tie.Need-returns Inv-loop μ-loop
-returns c = ?
+returns c = search needs
 
--- src/parts.rt:44:5
 loop-less : tie.Need-loop-less Inv-loop μ-loop
-loop-less c = ?
+loop-less c = omega (arith, c .before .before .before .before .before .put-lines .ensures .some, c .before .before .before .before .before .put-lines .ensures .within)
 
--- src/parts.rt:44:5
 loop-again : tie.Need-loop-again Inv-loop μ-loop
-loop-again c = ?
+loop-again c = (c .before .before .before .before .before .put-lines .ensures .within, put-length (c .before .before .before .before .before .put-lines .ensures .put) ∙ c .before .before .before .before .before .before .before .before .before .loop .inv .1)
 
--- src/parts.rt:34:1
 same-length-2 : tie.Need-same-length-2 Inv-loop μ-loop
-same-length-2 c = ?
+same-length-2 c = c .before .loop .inv .1
 
--- src/parts.rt:34:1
 returns-2 : tie.Need-returns-2 Inv-loop μ-loop
-returns-2 c = ?
+returns-2 c = search needs
 
 pub list-transitions-spec : {M : Type 1} → statement M
 list-transitions-spec =
