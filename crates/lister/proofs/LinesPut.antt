@@ -93,7 +93,7 @@ pub putting-stops : (words : List ℕ) (a : Accepted) {k : ℕ} {lent text : Lis
 putting-stops words a p some = record { some = some; within = p .within; put = p .put }
 
 -- The line of transition k, from what the walk and the choice leave.
-module _ (words : List ℕ) (a : Accepted) (marks : List ℕ) (own : Distinct) (order : List ℕ) (p : Listable words a marks own order) (k : ℕ)
+module _ {words : List ℕ} {a : Accepted} {marks : List ℕ} {own : Distinct} {order : List ℕ} (p : Listable words a marks own order) {k : ℕ}
     (h : k < a .transitions) where
   abbrev l : Layout
   l = a .layout
@@ -111,7 +111,7 @@ module _ (words : List ℕ) (a : Accepted) (marks : List ℕ) (own : Distinct) (
   walk-asks room = keepable words a e k h marked-lent (rw (rows-lent words a e) (p .own-are)) room
 
   -- once the walk is done
-  module _ (lent kept : List ℕ) (m : MarkedKept lentRows marks (l .rows) k lent kept) where
+  module _ {lent kept : List ℕ} (m : MarkedKept lentRows marks (l .rows) k lent kept) where
     stands : kept ≡ marksOf words l k ++ drop (length (marksOf words l k)) lent
     stands = bytes-left words a e k h marked-lent m
 

@@ -21,11 +21,16 @@ slice-aggregate-list-accepted : tie.Need-slice-aggregate-list-accepted
 slice-aggregate-list-accepted c = sym (length-take-le _ _ (search needs))
 
 slice-aggregate-list-accepted-2 : tie.Need-slice-aggregate-list-accepted-2
-slice-aggregate-list-accepted-2 c = sym (c .before .before .before .before .before .before .judge-bytes .ensures .ready _ (c .before .before .before .judged .given .1) .order-long)
+slice-aggregate-list-accepted-2 c =
+    let j = c .before .before .before in
+    let ju = j .before .before .before in
+    sym (ju .judge-bytes .ensures .ready _ (j .judged .given .1) .order-long)
 
 list-accepted-requires : tie.Need-list-accepted-requires
 list-accepted-requires c κs =
-    let r = c .before .before .before .before .before .before .judge-bytes .ensures .ready _ (c .before .before .before .judged .given .1) in
+    let j = c .before .before .before in
+    let ju = j .before .before .before in
+    let r = ju .judge-bytes .ensures .ready _ (j .judged .given .1) in
     rw (r .words-stand) (r .ordered)
 
 enum-known-judged-2 : tie.Need-enum-known-judged-2

@@ -28,7 +28,11 @@ same-length : tie.Need-same-length
 same-length c = search needs
 
 returns-2 : tie.Need-returns-2
-returns-2 c = even-judged (c .before .before .before .before .before .fill-words .ensures) (c .before .before .before .before .before .before .before .if1 .left) (c .before .before .before .before .before .before .before .before .before .before .pre .2) (c .judge-into .ensures)
+returns-2 c =
+    let f = c .before .before .before .before .before in
+    let i1 = f .before .before in
+    let s = i1 .before .before .before in
+    even-judged (f .fill-words .ensures) (i1 .if1 .left) (s .pre .2) (c .judge-into .ensures)
 
 pub judge-bytes-spec : {M : Type 1} → statement M
 judge-bytes-spec =

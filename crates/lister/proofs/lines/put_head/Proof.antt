@@ -15,14 +15,19 @@ slice-aggregate-put-order c = sym (length-take-le _ _ (c .before .before .before
 
 put-order-requires : tie.Need-put-order-requires
 put-order-requires c κs =
-    let p = c .before .before .before .before .before .before .before .before .before .pre in
-    order-fits _ _ _ _ (p .order-there) (p .chosen-fit) (c .before .before .before .before .put-accepted .ensures .1) (put-length (c .before .before .before .before .put-accepted .ensures .0) ∙ p .room)
+    let pu = c .before .before .before .before in
+    let s = pu .before .before .before .before .before in
+    let p = s .pre in
+    order-fits _ _ _ _ (p .order-there) (p .chosen-fit) (pu .put-accepted .ensures .1) (put-length (pu .put-accepted .ensures .0) ∙ p .room)
 
 same-length : tie.Need-same-length
 same-length c = search needs
 
 returns : tie.Need-returns
-returns c = put-then (c .before .before .before .before .before .before .before .put-accepted .ensures .0) (c .before .before .put-order .ensures .0)
+returns c =
+    let p = c .before .before in
+    let pu = p .before .before .before .before .before in
+    put-then (pu .put-accepted .ensures .0) (p .put-order .ensures .0)
 
 pub put-head-spec : {M : Type 1} → statement M
 put-head-spec =

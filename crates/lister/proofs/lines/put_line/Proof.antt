@@ -26,48 +26,74 @@ slice-aggregate-mark-kept : tie.Need-slice-aggregate-mark-kept
 slice-aggregate-mark-kept c = search needs
 
 mark-kept-requires : tie.Need-mark-kept-requires
-mark-kept-requires c κs = let s = c .before .before .before .before .before .before in walk-asks _ _ _ _ _ (s .pre .0) _ (s .pre .1) refl
+mark-kept-requires c κs =
+    let s = c .before .before .before .before .before .before in
+    walk-asks (s .pre .0) (s .pre .1) refl
 
 array-share-prefix-kept : tie.Need-array-share-prefix-kept
-array-share-prefix-kept c = let s = c .before .before .before .before .before .before .before .before in rows-there _ _ _ _ _ (s .pre .0) _ (s .pre .1) _ _ (c .before .mark-kept .ensures)
+array-share-prefix-kept c =
+    let m = c .before in
+    let s = m .before .before .before .before .before .before .before in
+    rows-there (s .pre .0) (s .pre .1) (m .mark-kept .ensures)
 
 slice-aggregate-fill-assigned : tie.Need-slice-aggregate-fill-assigned
-slice-aggregate-fill-assigned c = let s = c .before .before .before .before .before .before .before .before .before in rows-long _ _ _ _ _ (s .pre .0) _ (s .pre .1) _ _ (c .before .before .mark-kept .ensures)
+slice-aggregate-fill-assigned c =
+    let m = c .before .before in
+    let s = m .before .before .before .before .before .before .before in
+    rows-long (s .pre .0) (s .pre .1) (m .mark-kept .ensures)
 
 slice-aggregate-fill-assigned-2 : tie.Need-slice-aggregate-fill-assigned-2
 slice-aggregate-fill-assigned-2 c = search needs
 
 fill-assigned-requires : tie.Need-fill-assigned-requires
-fill-assigned-requires c κs = let s = c .before .before .before .before .before .before .before .before .before .before in choice-asks _ _ _ _ _ (s .pre .0) _ (s .pre .1) _ _ (c .before .before .before .mark-kept .ensures) refl
+fill-assigned-requires c κs =
+    let m = c .before .before .before in
+    let s = m .before .before .before .before .before .before .before in
+    choice-asks (s .pre .0) (s .pre .1) (m .mark-kept .ensures) refl
 
 array-share-prefix-labels : tie.Need-array-share-prefix-labels
 array-share-prefix-labels c =
-    let s = c .before .before .before .before .before .before .before .before .before .before .before .before .before in
-    labels-there _ _ _ _ _ (s .pre .0) _ (s .pre .1) _ _ (c .before .before .before .before .before .before .mark-kept .ensures) _ _ _ (c .before .before .fill-assigned .ensures .0) (c .before .before .fill-assigned .ensures .1)
+    let f = c .before .before in
+    let m = f .before .before .before .before in
+    let s = m .before .before .before .before .before .before .before in
+    labels-there (s .pre .0) (s .pre .1) (m .mark-kept .ensures) _ _ _ (f .fill-assigned .ensures .0) (f .fill-assigned .ensures .1)
 
 slice-aggregate-put-transition : tie.Need-slice-aggregate-put-transition
 slice-aggregate-put-transition c =
-    let s = c .before .before .before .before .before .before .before .before .before .before .before .before .before .before in
-    labels-long _ _ _ _ _ (s .pre .0) _ (s .pre .1) _ _ (c .before .before .before .before .before .before .before .mark-kept .ensures) _ _ _ (c .before .before .before .fill-assigned .ensures .0) (c .before .before .before .fill-assigned .ensures .1)
+    let f = c .before .before .before in
+    let m = f .before .before .before .before in
+    let s = m .before .before .before .before .before .before .before in
+    labels-long (s .pre .0) (s .pre .1) (m .mark-kept .ensures) _ _ _ (f .fill-assigned .ensures .0) (f .fill-assigned .ensures .1)
 
 array-share-prefix-kept-2 : tie.Need-array-share-prefix-kept-2
-array-share-prefix-kept-2 c = let s = c .before .before .before .before .before .before .before .before .before .before .before .before .before .before in rows-there _ _ _ _ _ (s .pre .0) _ (s .pre .1) _ _ (c .before .before .before .before .before .before .before .mark-kept .ensures)
+array-share-prefix-kept-2 c =
+    let m = c .before .before .before .before .before .before .before in
+    let s = m .before .before .before .before .before .before .before in
+    rows-there (s .pre .0) (s .pre .1) (m .mark-kept .ensures)
 
 slice-aggregate-put-transition-2 : tie.Need-slice-aggregate-put-transition-2
-slice-aggregate-put-transition-2 c = let s = c .before .before .before .before .before .before .before .before .before .before .before .before .before .before .before in rows-long _ _ _ _ _ (s .pre .0) _ (s .pre .1) _ _ (c .before .before .before .before .before .before .before .before .mark-kept .ensures)
+slice-aggregate-put-transition-2 c =
+    let m = c .before .before .before .before .before .before .before .before in
+    let s = m .before .before .before .before .before .before .before in
+    rows-long (s .pre .0) (s .pre .1) (m .mark-kept .ensures)
 
 put-transition-requires : tie.Need-put-transition-requires
 put-transition-requires c κs =
-    let s = c .before .before .before .before .before .before .before .before .before .before .before .before .before .before .before in
-    line-fits _ _ _ _ _ (s .pre .0) _ (s .pre .1) _ _ (c .before .before .before .before .before .before .before .before .mark-kept .ensures) _ _ _ (c .before .before .before .before .fill-assigned .ensures .0) (c .before .before .before .before .fill-assigned .ensures .1) _ _ (s .pre .2)
+    let f = c .before .before .before .before in
+    let m = f .before .before .before .before in
+    let s = m .before .before .before .before .before .before .before in
+    line-fits (s .pre .0) (s .pre .1) (m .mark-kept .ensures) _ _ _ (f .fill-assigned .ensures .0) (f .fill-assigned .ensures .1) _ _ (s .pre .2)
 
 same-length : tie.Need-same-length
 same-length c = search needs
 
 returns : tie.Need-returns
 returns c =
-    let s = c .before .before .before .before .before .before .before .before .before .before .before .before .before .before .before .before .before .before in
-    line-put _ _ _ _ _ (s .pre .0) _ (s .pre .1) _ _ (c .before .before .before .before .before .before .before .before .before .before .before .mark-kept .ensures) _ _ _ (c .before .before .before .before .before .before .before .fill-assigned .ensures .0) (c .before .before .before .before .before .before .before .fill-assigned .ensures .1) (c .before .before .put-transition .ensures .0)
+    let p = c .before .before in
+    let f = p .before .before .before .before .before in
+    let m = f .before .before .before .before in
+    let s = m .before .before .before .before .before .before .before in
+    line-put (s .pre .0) (s .pre .1) (m .mark-kept .ensures) _ _ _ (f .fill-assigned .ensures .0) (f .fill-assigned .ensures .1) (p .put-transition .ensures .0)
 
 pub put-line-spec : {M : Type 1} → statement M
 put-line-spec =

@@ -16,16 +16,24 @@ abbrev μ-loop : tie.MeasureT-loop
 μ-loop words a marks own order k text₀ count most next₀ at₀ text next at = count - next
 
 mul-most : tie.Need-mul-most Inv-loop μ-loop
-mul-most c = let m = is-understood _ _ (c .before .before .before .before .before .pre .0 .ordered .accepted) in omega (arith, m .most-variables, m .most-rows)
+mul-most c =
+    let s = c .before .before .before .before .before in
+    let m = is-understood _ _ (s .pre .0 .ordered .accepted) in omega (arith, m .most-variables, m .most-rows)
 
 add-most : tie.Need-add-most Inv-loop μ-loop
-add-most c = let m = is-understood _ _ (c .before .before .before .before .before .pre .0 .ordered .accepted) in omega (arith, m .most-variables, m .most-rows)
+add-most c =
+    let s = c .before .before .before .before .before in
+    let m = is-understood _ _ (s .pre .0 .ordered .accepted) in omega (arith, m .most-variables, m .most-rows)
 
 mul-most-2 : tie.Need-mul-most-2 Inv-loop μ-loop
-mul-most-2 c = let m = is-understood _ _ (c .before .before .before .before .before .before .pre .0 .ordered .accepted) in omega (arith, m .most-variables, m .most-rows)
+mul-most-2 c =
+    let s = c .before .before .before .before .before .before in
+    let m = is-understood _ _ (s .pre .0 .ordered .accepted) in omega (arith, m .most-variables, m .most-rows)
 
 add-most-2 : tie.Need-add-most-2 Inv-loop μ-loop
-add-most-2 c = let m = is-understood _ _ (c .before .before .before .before .before .before .pre .0 .ordered .accepted) in omega (arith, m .most-variables, m .most-rows)
+add-most-2 c =
+    let s = c .before .before .before .before .before .before in
+    let m = is-understood _ _ (s .pre .0 .ordered .accepted) in omega (arith, m .most-variables, m .most-rows)
 
 loop-holds : tie.Need-loop-holds Inv-loop μ-loop
 loop-holds c = putting-begins _ _ _ _ _ (c .before .before .before .before .before .before .pre .1)
@@ -38,13 +46,18 @@ same-length c = put-length (c .before .before .loop .inv .put)
 
 returns : tie.Need-returns Inv-loop μ-loop
 returns c =
-    let i = c .before .before .loop .inv in
-    putting-stops _ _ i (putting-some _ _ i (omega (arith, put-length (i .put), c .before .before .before .before .before .before .before .before .before .pre .2, c .if1 .taken)))
+    let l = c .before .before in
+    let s = l .before .before .before .before .before .before .before in
+    let i = l .loop .inv in
+    putting-stops _ _ i (putting-some _ _ i (omega (arith, put-length (i .put), s .pre .2, c .if1 .taken)))
 
 put-line-requires : tie.Need-put-line-requires Inv-loop μ-loop
 put-line-requires c κs =
-    let s = c .before .before .before .before .before .before .before .before .before .before in
-    (s .pre .0, c .before .before .loop-test .taken, omega (arith, c .before .before .before .loop .inv .put .within, put-length (c .before .before .before .loop .inv .put), c .before .if1 .left))
+    let i1 = c .before in
+    let lt = i1 .before in
+    let l = lt .before in
+    let s = l .before .before .before .before .before .before .before in
+    (s .pre .0, lt .loop-test .taken, omega (arith, l .loop .inv .put .within, put-length (l .loop .inv .put), i1 .if1 .left))
 
 add-next : tie.Need-add-next Inv-loop μ-loop
 add-next c = search needs
@@ -53,13 +66,20 @@ loop-less : tie.Need-loop-less Inv-loop μ-loop
 loop-less c = search needs
 
 loop-again : tie.Need-loop-again Inv-loop μ-loop
-loop-again c = putting-goes-on _ _ (c .before .before .before .before .before .before .loop .inv) (c .before .before .before .before .before .loop-test .taken) (c .before .before .put-line .ensures)
+loop-again c =
+    let p = c .before .before in
+    let lt = p .before .before .before in
+    let l = lt .before in
+    putting-goes-on _ _ (l .loop .inv) (lt .loop-test .taken) (p .put-line .ensures)
 
 same-length-2 : tie.Need-same-length-2 Inv-loop μ-loop
 same-length-2 c = put-length (c .before .loop .inv .put)
 
 returns-2 : tie.Need-returns-2 Inv-loop μ-loop
-returns-2 c = let i = c .before .loop .inv in putting-stops _ _ i (omega (arith, c .before .before .before .before .before .before .before .before .pre .1, c .loop-test .left))
+returns-2 c =
+    let l = c .before in
+    let s = l .before .before .before .before .before .before .before in
+    let i = l .loop .inv in putting-stops _ _ i (omega (arith, s .pre .1, c .loop-test .left))
 
 pub put-lines-spec : {M : Type 1} → statement M
 put-lines-spec =

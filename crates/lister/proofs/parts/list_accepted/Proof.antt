@@ -13,7 +13,10 @@ slice-aggregate-put-head : tie.Need-slice-aggregate-put-head
 slice-aggregate-put-head c = search needs
 
 put-head-requires : tie.Need-put-head-requires
-put-head-requires c κs = headed (c .before .before .before .before .pre) (sym (c .before .large-buffer .ensures))
+put-head-requires c κs =
+    let l = c .before in
+    let s = l .before .before .before in
+    headed (s .pre) (sym (l .large-buffer .ensures))
 
 array-share-prefix-text : tie.Need-array-share-prefix-text
 array-share-prefix-text c = search needs

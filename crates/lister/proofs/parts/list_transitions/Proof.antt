@@ -55,9 +55,13 @@ loop-holds c = (omega arith, refl)
 
 put-lines-requires : tie.Need-put-lines-requires Inv-loop μ-loop
 put-lines-requires c κs =
-    let s = c .before .before .before .before .before .before .before .before .before .before .before .before .before .before in
-    let i = c .before .before .before .loop .inv in
-    (listable (s .pre .0) (c .before .before .before .before .before .before .before .before .marks-of .ensures) (c .before .before .before .before .keys-of .ensures .0), c .before .before .loop-test .taken, line-room (s .pre .0) _ (i .1 ∙ s .pre .1))
+    let lt = c .before .before in
+    let l = lt .before in
+    let k = l .before in
+    let m = k .before .before .before .before in
+    let s = m .before .before .before .before .before .before in
+    let i = l .loop .inv in
+    (listable (s .pre .0) (m .marks-of .ensures) (k .keys-of .ensures .0), lt .loop-test .taken, line-room (s .pre .0) _ (i .1 ∙ s .pre .1))
 
 slice-reshare-prefix-write-all : tie.Need-slice-reshare-prefix-write-all Inv-loop μ-loop
 slice-reshare-prefix-write-all c = let p = c .before .before .put-lines .ensures .put in omega (arith, p .within, put-length p)
@@ -71,16 +75,24 @@ write-all-requires : tie.Need-write-all-requires Inv-loop μ-loop
 write-all-requires c κs = search needs
 
 same-length : tie.Need-same-length Inv-loop μ-loop
-same-length c = put-length (c .before .before .before .before .before .put-lines .ensures .put) ∙ c .before .before .before .before .before .before .before .before .before .loop .inv .1
+same-length c =
+    let p = c .before .before .before .before .before in
+    let l = p .before .before .before .before in
+    put-length (p .put-lines .ensures .put) ∙ l .loop .inv .1
 
 returns : tie.Need-returns Inv-loop μ-loop
 returns c = search needs
 
 loop-less : tie.Need-loop-less Inv-loop μ-loop
-loop-less c = omega (arith, c .before .before .before .before .before .put-lines .ensures .some, c .before .before .before .before .before .put-lines .ensures .within)
+loop-less c =
+    let p = c .before .before .before .before .before in
+    omega (arith, p .put-lines .ensures .some, p .put-lines .ensures .within)
 
 loop-again : tie.Need-loop-again Inv-loop μ-loop
-loop-again c = (c .before .before .before .before .before .put-lines .ensures .within, put-length (c .before .before .before .before .before .put-lines .ensures .put) ∙ c .before .before .before .before .before .before .before .before .before .loop .inv .1)
+loop-again c =
+    let p = c .before .before .before .before .before in
+    let l = p .before .before .before .before in
+    (p .put-lines .ensures .within, put-length (p .put-lines .ensures .put) ∙ l .loop .inv .1)
 
 same-length-2 : tie.Need-same-length-2 Inv-loop μ-loop
 same-length-2 c = c .before .loop .inv .1

@@ -49,13 +49,20 @@ loop-less : tie.Need-loop-less Inv-loop μ-loop
 loop-less c = search needs
 
 loop-again : tie.Need-loop-again Inv-loop μ-loop
-loop-again c = word-put _ _ (c .before .before .before .before .before .before .before .pre) (c .before .before .before .loop-test .taken) (c .word-of .ensures) (c .before .before .before .before .loop .inv)
+loop-again c =
+    let lt = c .before .before .before in
+    let l = lt .before in
+    let s = l .before .before .before in
+    word-put _ _ (s .pre) (lt .loop-test .taken) (c .word-of .ensures) (l .loop .inv)
 
 same-length : tie.Need-same-length Inv-loop μ-loop
 same-length c = search needs
 
 returns : tie.Need-returns Inv-loop μ-loop
-returns c = words-in _ _ (c .before .before .before .before .pre) (c .loop-test .left) (c .before .loop .inv)
+returns c =
+    let l = c .before in
+    let s = l .before .before .before in
+    words-in _ _ (s .pre) (c .loop-test .left) (l .loop .inv)
 
 pub fill-words-spec : {M : Type 1} → statement M
 fill-words-spec =

@@ -56,35 +56,53 @@ cast-mark-kept c = let r = rows-fit _ _ (c .before .before .before .before .befo
 
 mark-kept-requires : tie.Need-mark-kept-requires
 mark-kept-requires c κs =
-    let e = c .before .before .before .before .before .before .before .before .before .before .before .pre in
-    keepable _ _ (e .accepted) _ (e .there) (c .before .before .before .before .before .before .marks-of .ensures) (c .before .before .before .keys-of .ensures .0) (e .room)
+    let k = c .before .before .before in
+    let m = k .before .before .before in
+    let s = m .before .before .before .before .before in
+    let e = s .pre in
+    keepable _ _ (e .accepted) _ (e .there) (m .marks-of .ensures) (k .keys-of .ensures .0) (e .room)
 
 mul-count-kept : tie.Need-mul-count-kept
-mul-count-kept c = let r = parts-reached _ _ (c .before .before .before .before .before .before .before .before .before .before .before .before .before .before .pre .accepted) in omega arith
+mul-count-kept c =
+    let s = c .before .before .before .before .before .before .before .before .before .before .before .before .before .before in
+    let r = parts-reached _ _ (s .pre .accepted) in omega arith
 
 sub-count-kept : tie.Need-sub-count-kept
-sub-count-kept c = let r = parts-reached _ _ (c .before .before .before .before .before .before .before .before .before .before .before .before .before .before .pre .accepted) in omega arith
+sub-count-kept c =
+    let s = c .before .before .before .before .before .before .before .before .before .before .before .before .before .before in
+    let r = parts-reached _ _ (s .pre .accepted) in omega arith
 
 part-count-kept-start : tie.Need-part-count-kept-start
-part-count-kept-start c = let r = parts-reached _ _ (c .before .before .before .before .before .before .before .before .before .before .before .before .before .before .pre .accepted) in omega arith
+part-count-kept-start c =
+    let s = c .before .before .before .before .before .before .before .before .before .before .before .before .before .before in
+    let r = parts-reached _ _ (s .pre .accepted) in omega arith
 
 part-count-kept-end : tie.Need-part-count-kept-end
 part-count-kept-end c = search needs
 
 slice-reshare-prefix-count-kept : tie.Need-slice-reshare-prefix-count-kept
 slice-reshare-prefix-count-kept c =
-    let e = c .before .before .before .before .before .before .before .before .before .before .before .before .before .before .before .pre in
-    front-there _ _ (e .accepted) _ (e .there) _ _ (bytes-left _ _ (e .accepted) _ (e .there) (c .before .before .before .before .before .before .before .before .before .before .marks-of .ensures) (c .before .before .before .mark-kept .ensures)) .0
+    let m = c .before .before .before in
+    let ma = m .before .before .before .before .before .before .before in
+    let s = ma .before .before .before .before .before in
+    let e = s .pre in
+    front-there _ _ (e .accepted) _ (e .there) _ _ (bytes-left _ _ (e .accepted) _ (e .there) (ma .marks-of .ensures) (m .mark-kept .ensures)) .0
 
 slice-aggregate-count-kept : tie.Need-slice-aggregate-count-kept
 slice-aggregate-count-kept c =
-    let e = c .before .before .before .before .before .before .before .before .before .before .before .before .before .before .before .before .pre in
-    front-length _ _ (e .accepted) _ (e .there) _ _ (bytes-left _ _ (e .accepted) _ (e .there) (c .before .before .before .before .before .before .before .before .before .before .before .marks-of .ensures) (c .before .before .before .before .mark-kept .ensures))
+    let m = c .before .before .before .before in
+    let ma = m .before .before .before .before .before .before .before in
+    let s = ma .before .before .before .before .before in
+    let e = s .pre in
+    front-length _ _ (e .accepted) _ (e .there) _ _ (bytes-left _ _ (e .accepted) _ (e .there) (ma .marks-of .ensures) (m .mark-kept .ensures))
 
 count-kept-requires : tie.Need-count-kept-requires
 count-kept-requires c κs =
-    let e = c .before .before .before .before .before .before .before .before .before .before .before .before .before .before .before .before .pre in
-    let n = front-length _ _ (e .accepted) _ (e .there) _ _ (bytes-left _ _ (e .accepted) _ (e .there) (c .before .before .before .before .before .before .before .before .before .before .before .marks-of .ensures) (c .before .before .before .before .mark-kept .ensures)) in
+    let m = c .before .before .before .before in
+    let ma = m .before .before .before .before .before .before .before in
+    let s = ma .before .before .before .before .before in
+    let e = s .pre in
+    let n = front-length _ _ (e .accepted) _ (e .there) _ _ (bytes-left _ _ (e .accepted) _ (e .there) (ma .marks-of .ensures) (m .mark-kept .ensures)) in
     lent-below _ _ (e .accepted) _ (omega arith)
 
 same-length : tie.Need-same-length
@@ -92,8 +110,11 @@ same-length c = search needs
 
 returns : tie.Need-returns
 returns c =
-    let e = c .before .before .before .before .before .before .before .before .before .before .before .before .before .before .before .before .before .pre in
-    bytes-kept _ _ (e .accepted) _ (e .there) (c .before .before .before .before .before .before .before .before .before .before .before .before .marks-of .ensures) (c .before .before .before .before .before .mark-kept .ensures) (c .count-kept .ensures)
+    let m = c .before .before .before .before .before in
+    let ma = m .before .before .before .before .before .before .before in
+    let s = ma .before .before .before .before .before in
+    let e = s .pre in
+    bytes-kept _ _ (e .accepted) _ (e .there) (ma .marks-of .ensures) (m .mark-kept .ensures) (c .count-kept .ensures)
 
 pub keep-spec : {M : Type 1} → statement M
 keep-spec =

@@ -91,7 +91,10 @@ module _ (t : ℕ) where
       let h = p .walkable .here in omega (arith, p .room)
 
   shares-of-requires : lts.Need-shares-of-requires (cs t) (here t) keep.Post Inv μ-loop
-  shares-of-requires c κs = omega (arith, c .before .before .before .before .before .before .before .before .pre .1 .few (not-false _ (c .before .before .before .before .if1 .left)))
+  shares-of-requires c κs =
+      let i1 = c .before .before .before .before in
+      let s = i1 .before .before .before .before in
+      omega (arith, s .pre .1 .few (not-false _ (i1 .if1 .left)))
 
   first-of-requires : lts.Need-first-of-requires (cs t) (here t) keep.Post Inv μ-loop
   first-of-requires c κs = let w = c .before .before .before .before .before .before .before .before .before .pre .1 .walkable in (row-there w, row-few w)
@@ -101,8 +104,15 @@ module _ (t : ℕ) where
 
   loop-holds : lts.Need-loop-holds (cs t) (here t) keep.Post Inv μ-loop
   loop-holds c =
-      taking-begins (c .before .before .before .before .before .kind-of .ensures) (omega (arith, c .before .before .before .before .if3 .left)) (c .before .before .before .before .before .before .if2 .left) (c .before .before .before .before .before .before .before .before .before .before .before .pre .1)
-      (not-false _ (c .before .before .before .before .before .before .before .if1 .left)) (c .before .before .shares-of .ensures) (c .expressions-of .ensures) (c .before .first-of .ensures)
+      let f = c .before in
+      let sh = f .before in
+      let i3 = sh .before .before in
+      let k = i3 .before in
+      let i2 = k .before in
+      let i1 = i2 .before in
+      let s = i1 .before .before .before .before in
+      taking-begins (k .kind-of .ensures) (omega (arith, i3 .if3 .left)) (i2 .if2 .left) (s .pre .1)
+      (not-false _ (i1 .if1 .left)) (sh .shares-of .ensures) (c .expressions-of .ensures) (f .first-of .ensures)
 
   is-done-requires : lts.Need-is-done-requires (cs t) (here t) keep.Post Inv μ-loop
   is-done-requires c κs = search needs
@@ -112,9 +122,19 @@ module _ (t : ℕ) where
 
   returns-3 : lts.Need-returns-3 (cs t) (here t) keep.Post Inv μ-loop
   returns-3 c =
-      taking-done (c .before .before .before .before .before .before .before .before .before .kind-of .ensures) (omega (arith, c .before .before .before .before .before .before .before .before .if3 .left)) (c .before .before .before .before .before .before .before .before .before .before .if2 .left) (c .before .before .before .before .before .before .before .before .before .before .before .before .before .before .before .pre .1)
-      (not-false _ (c .before .before .before .before .before .before .before .before .before .before .before .if1 .left)) (c .before .before .before .before .before .before .shares-of .ensures) (c .before .before .before .before .expressions-of .ensures) (c .before .before .before .before .before .first-of .ensures)
-      (c .before .before .before .loop .inv) (sym (c .before .is-done .ensures) ∙ c .if5 .taken)
+      let i = c .before in
+      let l = i .before .before in
+      let e = l .before in
+      let f = e .before in
+      let sh = f .before in
+      let i3 = sh .before .before in
+      let k = i3 .before in
+      let i2 = k .before in
+      let i1 = i2 .before in
+      let s = i1 .before .before .before .before in
+      taking-done (k .kind-of .ensures) (omega (arith, i3 .if3 .left)) (i2 .if2 .left) (s .pre .1)
+      (not-false _ (i1 .if1 .left)) (sh .shares-of .ensures) (e .expressions-of .ensures) (f .first-of .ensures)
+      (l .loop .inv) (sym (i .is-done .ensures) ∙ c .if5 .taken)
 
   sub-keys-of : lts.Need-sub-keys-of (cs t) (here t) keep.Post Inv μ-loop
   sub-keys-of c = omega (arith, c .before .before .before .before .before .before .before .before .before .before .if2 .left)
@@ -126,19 +146,33 @@ module _ (t : ℕ) where
   total-of-requires c κs = c .keys-of .ensures .1
 
   turn-of-requires : lts.Need-turn-of-requires (cs t) (here t) keep.Post Inv μ-loop
-  turn-of-requires c κs = taking-take (c .before .before .before .before .before .loop .inv) (c .before .before .before .before .loop-test .taken) (c .before .keys-of .ensures .0) (c .total-of .ensures)
+  turn-of-requires c κs =
+      let k = c .before in
+      let lt = k .before .before .before in
+      let l = lt .before in
+      taking-take (l .loop .inv) (lt .loop-test .taken) (k .keys-of .ensures .0) (c .total-of .ensures)
 
   sub-keep : lts.Need-sub-keep (cs t) (here t) keep.Post Inv μ-loop
   sub-keep c = omega (arith, c .before .before .before .before .before .before .before .before .before .before .before .before .before .if2 .left)
 
   keep-requires : lts.Need-keep-requires (cs t) (here t) keep.Post Inv μ-loop
-  keep-requires c κs = (
-    omega (arith, c .before .before .before .before .before .before .before .before .before .before .before .before .before .before .before .before .before .before .before .pre .0, c .before .before .before .before .before .before .before .before .before .before .before .before .before .before .if2 .left),
-    taking-asks (c .before .before .before .before .before .before .before .loop .inv) (c .before .before .before .before .before .before .loop-test .taken) (c .before .before .before .keys-of .ensures .0) (c .before .before .total-of .ensures) (c .before .turn-of .ensures) (c .before .before .before .before .before .before .before .before .before .before .before .before .before .before .before .before .before .before .before .pre .1 .room),
-  )
+  keep-requires c κs =
+      let tu = c .before in
+      let to = tu .before in
+      let k = to .before in
+      let lt = k .before .before .before in
+      let l = lt .before in
+      let i2 = l .before .before .before .before .before .before .before in
+      let s = i2 .before .before .before .before .before in (
+        omega (arith, s .pre .0, i2 .if2 .left),
+        taking-asks (l .loop .inv) (lt .loop-test .taken) (k .keys-of .ensures .0) (to .total-of .ensures) (tu .turn-of .ensures) (s .pre .1 .room),
+      )
 
   end-of-requires : lts.Need-end-of-requires (cs t) (here t) keep.Post Inv μ-loop
-  end-of-requires c κs = row-there (taking-on (c .before .before .before .before .before .before .before .before .before .before .loop .inv) (c .before .before .before .before .before .before .before .before .before .loop-test .taken))
+  end-of-requires c κs =
+      let lt = c .before .before .before .before .before .before .before .before .before in
+      let l = lt .before in
+      row-there (taking-on (l .loop .inv) (lt .loop-test .taken))
 
   sub-m : lts.Need-sub-m (cs t) (here t) keep.Post Inv μ-loop
   sub-m c = omega (arith, c .before .before .before .before .before .before .before .before .before .before .loop-test .taken)
@@ -148,8 +182,14 @@ module _ (t : ℕ) where
 
   loop-again : lts.Need-loop-again (cs t) (here t) keep.Post Inv μ-loop
   loop-again c =
-      taking-turns (c .before .before .before .before .before .before .before .before .before .before .before .loop .inv) (c .before .before .before .before .before .before .before .before .before .before .loop-test .taken) (c .before .before .before .before .before .before .before .keys-of .ensures .0) (c .before .before .before .before .before .before .total-of .ensures) (c .before .before .before .before .before .turn-of .ensures)
-      (c .before .before .before .keep .kept .1 .1 .1 .1 .1 .1 .1 .1 .0) (c .before .before .before .keep .ensures) refl (c .end-of .ensures)
+      let k = c .before .before .before in
+      let tu = k .before .before in
+      let to = tu .before in
+      let ke = to .before in
+      let lt = ke .before .before .before in
+      let l = lt .before in
+      taking-turns (l .loop .inv) (lt .loop-test .taken) (ke .keys-of .ensures .0) (to .total-of .ensures) (tu .turn-of .ensures)
+      (k .keep .kept .1 .1 .1 .1 .1 .1 .1 .1 .0) (k .keep .ensures) refl (c .end-of .ensures)
 
   same-length-3 : lts.Need-same-length-3 (cs t) (here t) keep.Post Inv μ-loop
   same-length-3 c = let a = c .before .before .before .before .before .before .before .args in length-set (a .out .now) (a .at .0) 1
@@ -162,11 +202,23 @@ module _ (t : ℕ) where
 
   returns-5 : lts.Need-returns-5 (cs t) (here t) keep.Post Inv μ-loop
   returns-5 c =
-      taking-ends (c .before .before .before .before .before .before .before .kind-of .ensures) (omega (arith, c .before .before .before .before .before .before .if3 .left)) (c .before .before .before .before .before .before .before .before .if2 .left) (c .before .before .before .before .before .before .before .before .before .before .before .before .before .pre .1)
-      (not-false _ (c .before .before .before .before .before .before .before .before .before .if1 .left)) (c .before .before .before .before .shares-of .ensures) (c .before .before .expressions-of .ensures) (c .before .before .before .first-of .ensures) (c .before .loop .inv) (c .loop-test .left)
+      let l = c .before in
+      let e = l .before in
+      let f = e .before in
+      let sh = f .before in
+      let i3 = sh .before .before in
+      let k = i3 .before in
+      let i2 = k .before in
+      let i1 = i2 .before in
+      let s = i1 .before .before .before .before in
+      taking-ends (k .kind-of .ensures) (omega (arith, i3 .if3 .left)) (i2 .if2 .left) (s .pre .1)
+      (not-false _ (i1 .if1 .left)) (sh .shares-of .ensures) (e .expressions-of .ensures) (f .first-of .ensures) (l .loop .inv) (c .loop-test .left)
 
   returns-6 : lts.Need-returns-6 (cs t) (here t) keep.Post Inv μ-loop
-  returns-6 c = absurd (omega (arith, c .if4 .left, c .before .before .kind-of .ensures, row-known (c .before .before .before .before .before .before .before .before .pre .1 .walkable)))
+  returns-6 c =
+      let k = c .before .before in
+      let s = k .before .before .before .before .before .before in
+      absurd (omega (arith, c .if4 .left, k .kind-of .ensures, row-known (s .pre .1 .walkable)))
 
 pub +keep-spec : {M : Type 1} → statement M
 +keep-spec =
