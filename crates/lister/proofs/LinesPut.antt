@@ -149,5 +149,6 @@ module _ {words : List ℕ} {a : Accepted} {marks : List ℕ} {own : Distinct} {
           → Put text at (lineOf words l k) text′ after
       unfolding lineOf positions
       line-put q =
+          let u = is-understood words a e in
           let kept-are = positions-of (isKept (formulaIn words l) (proposalIn words l) (keyOf words l k)) 0 (l .rows) in
-          rw (← assigned, is-understood words a e .labels-are, ← kept-are) (rw (front-is words a e k h lent kept stands, is-understood words a e .labels-are) at q)
+          rw (← assigned, u .labels-are, ← kept-are) (rw (front-is words a e k h lent kept stands, u .labels-are) at q)

@@ -50,9 +50,9 @@ pub record Taking (rows marks : List ℕ) (#N left : ℕ) (out₀ : List ℕ) (s
       → markedBy (keptFrom A rows marks reads (left - 1) s m (c .0)) out ≡ markedBy (keptFrom A rows marks reads (left - 1) s₀ m₀ (c₀ .0)) out₀
 
 -- at row i, whose kind word is that of a join, for key k
-module _ {rows marks : List ℕ} {#N i left k kind m₀ : ℕ} {c₀ : Label} {s₀ : Shares} {out₀ : List ℕ} {own : Distinct} {on : Bool} (e : kind ≡ kindOf rows i) (join : 2 < kind)
-    (deep : left ≡ 0 → ⊥) (p : Keepable rows marks out₀ #N i left own k on) (is-on : on ≡ true) (s-is : s₀ ≡ sharesOf (eachUnder kind) own k) (m-is : m₀ ≡ expressionsAt rows i)
-    (c-is : c₀ ≡ ℓ (firstAt rows i)) where
+module _ {rows marks : List ℕ} {#N i left k kind m₀ : ℕ} {c₀ : Label} {s₀ : Shares} {out₀ : List ℕ} {own : Distinct} {on : Bool}
+    (e : kind ≡ kindOf rows i) (join : 2 < kind) (deep : left ≡ 0 → ⊥) (p : Keepable rows marks out₀ #N i left own k on) (is-on : on ≡ true)
+    (s-is : s₀ ≡ sharesOf (eachUnder kind) own k) (m-is : m₀ ≡ expressionsAt rows i) (c-is : c₀ ≡ ℓ (firstAt rows i)) where
   few : total (keysAt rows marks left i) ≤ 65535
   few = rw (p .own-are) at (p .few is-on)
 
