@@ -10,7 +10,7 @@ use Rattle.table.specs.Formula.{starAt, childrenAt, nodeAt, formulaAt}
 use Rattle.table.specs.Example.{wordsOfP}
 use Rattle.strategy.specs.Judge.{judgedOf}
 use Rattle.listing.specs.Text.{ascii, digits, decimal, fields, acceptedLine, orderLine, transitionLine, refusedLine}
-use Rattle.lister.specs.Listing.{wordsOf, judgedBytes, lineOf, linesFrom, listed, listingOf}
+use Rattle.lister.specs.Listing.{wordsOf, judgedBytes, lineOf, linesFrom, listingOf}
 
 abbrev bytesOfP : List ℕ
 bytesOfP =
@@ -24,5 +24,5 @@ words-of-P = refl
 
 pub listings : (listingOf bytesOfP ≡ ascii "accepted 2 8 3 2\norder 1 4 6\n0 assign 1 4 keep 1 4\n1 assign 1 6 keep 1 6\n")
     × (listingOf [] ≡ ascii "refused 1 0\n") × (listingOf (2 ∷ []) ≡ ascii "refused 17 0\n")
-unfolding first formOf meets ascend takenBefore falseRule starRule candidateRule joinRule boundRule endsWithin keepsRules roundOf openAt variablesAt readsAt rowsAt strategyAt endAt sections checked starAt childrenAt nodeAt formulaAt judgedOf digits decimal fields acceptedLine orderLine transitionLine refusedLine wordsOf judgedBytes lineOf linesFrom listed
+unfolding first formOf meets ascend takenBefore falseRule starRule candidateRule joinRule boundRule endsWithin keepsRules roundOf openAt variablesAt readsAt rowsAt strategyAt endAt sections checked starAt childrenAt nodeAt formulaAt judgedOf digits decimal fields acceptedLine orderLine transitionLine refusedLine wordsOf judgedBytes lineOf linesFrom
 listings = (refl, refl, refl)

@@ -45,11 +45,16 @@ module _ (words : List ℕ) (l : Layout) where
   linesFrom k zero = []
   linesFrom k (suc more) = lineOf k ++ linesFrom (suc k) more
 
--- one line of a refusal; of an acceptance the first two lines, and a line for each transition
-unfoldable pub listed : List ℕ → Judged → List ℕ
-listed words (judged.Refused r) = refusedLine (r .number) (r .place)
-listed words (judged.Accepted a) = headOf a (map (λ i. i .0) (reported words (a .layout))) ++ linesFrom words (a .layout) 0 (a .transitions)
+-- the first part: one line of a refusal, or the first two lines of an acceptance
+abbrev pub firstOf : List ℕ → Judged → List ℕ
+firstOf words (judged.Refused r) = refusedLine (r .number) (r .place)
+firstOf words (judged.Accepted a) = headOf a (map (λ i. i .0) (reported words (a .layout)))
+
+-- the rest: of an acceptance a line for each transition
+abbrev pub restOf : List ℕ → Judged → List ℕ
+restOf words (judged.Refused r) = []
+restOf words (judged.Accepted a) = linesFrom words (a .layout) 0 (a .transitions)
 
 -- the whole listing
 abbrev pub listingOf : List ℕ → List ℕ
-listingOf bytes = listed (wordsOf bytes) (judgedBytes bytes)
+listingOf bytes = firstOf (wordsOf bytes) (judgedBytes bytes) ++ restOf (wordsOf bytes) (judgedBytes bytes)

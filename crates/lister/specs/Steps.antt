@@ -34,6 +34,12 @@ pub record JudgedBytes (bytes words order : List ℕ) (r : Judged) : Type 0 wher
   pub answered : r ≡ judgedBytes bytes
   pub ready : (a : Accepted) → r ≡ judged.Accepted a → Ready bytes words order a
 
+-- the words of bytes that are accepted so, with their reported order in front
+pub record Accepts (bytes words : List ℕ) (a : Accepted) (order : List ℕ) : Type 0 where
+  pub judged-so : judgedBytes bytes ≡ judged.Accepted a
+  pub words-are : words ≡ wordsOf bytes
+  pub ordered : Ordered words a order
+
 -- counts that fit, an order of so many labels, and room for two lines
 pub record Headed (a : Accepted) (order text : List ℕ) : Type 0 where
   pub variables-fit : a .layout .variables ≤ 1024

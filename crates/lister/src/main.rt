@@ -23,9 +23,9 @@ fn list(bytes: &[u8])
     match judged {
         Judged::Accepted(a) => {
             let count = bytes.len() / 2;
-            list_accepted(&words[..count], a, &order);
+            list_accepted(bytes, &words[..count], a, &order);
         }
-        Judged::Refused(r) => list_refused(r),
+        Judged::Refused(r) => list_refused(bytes, r),
     }
 }
 

@@ -1,7 +1,10 @@
-// The parts of a listing, each put into a buffer and then written out. A write that fails ends the listing.
+// The parts of a listing, each put into a buffer and then written. What a writing call does no contract can say; so what is handed to
+// it is asked for, and the callers show it. A write that fails ends the listing.
 ghost use mathlib.Core.Path.{_≡_};
+ghost use Prim.Native.Nat.{_-_};
 ghost use lib.ListN.{length};
-ghost use Rattle.nocturenc.specs.Requests.{Ordered};
+ghost use Rattle.lister.specs.Listing.{wordsOf, judgedBytes, linesFrom, firstOf};
+ghost use Rattle.lister.specs.Steps.{Accepts};
 use crate::lines::put_head;
 use crate::lines::put_lines;
 use counting::keys::keys_of;
@@ -10,29 +13,46 @@ use libc::STDOUT_FILENO;
 use listing::put_refused;
 use paper::Label;
 use strategy::Accepted;
+use strategy::Judged;
 use table::Refusal;
 
-// One line of a refusal.
-pub fn list_refused(r: Refusal) {
-    let mut text = [0u8; 30];
-    let at = put_refused(&mut text, 0, r.number, r.place);
-    io::write_all(STDOUT_FILENO, &text[..at]);
+// Writes the first part of the listing of the bytes; says whether it could.
+fn write_first(bytes: &[u8], part: &[u8]) -> bool
+    requires { ⌜ now part ≡ firstOf (wordsOf (now bytes)) (judgedBytes (now bytes)) ⌝ }
+{
+    io::write_all(STDOUT_FILENO, part)
 }
 
-// The listing of an accepted table, whose reported order stands in front of `order`.
-pub fn list_accepted(words: &[u16], a: Accepted, order: &[u16])
-    requires { ⌜ Ordered (now words) a (now order) ⌝ }
+// Writes the lines of the transitions `from` to `to`, the last left out, of the listing of the bytes; says whether it could.
+fn write_lines(bytes: &[u8], a: Accepted, from: usize, to: usize, part: &[u8]) -> bool
+    requires { ⌜ now part ≡ linesFrom (wordsOf (now bytes)) (a .layout) from (to - from) ⌝ }
+{
+    io::write_all(STDOUT_FILENO, part)
+}
+
+// One line of a refusal.
+pub fn list_refused(bytes: &[u8], r: Refusal)
+    requires { ⌜ judgedBytes (now bytes) ≡ Judged.Refused r ⌝ }
+{
+    let mut text = [0u8; 30];
+    let at = put_refused(&mut text, 0, r.number, r.place);
+    write_first(bytes, &text[..at]);
+}
+
+// The listing of accepted bytes, whose words these are and whose reported order stands in front of `order`.
+pub fn list_accepted(bytes: &[u8], words: &[u16], a: Accepted, order: &[u16])
+    requires { ⌜ Accepts (now bytes) (now words) a (now order) ⌝ }
 {
     let mut text = io::large_buffer();
     let at = put_head(a, order, &mut text);
-    if io::write_all(STDOUT_FILENO, &text[..at]) {
-        list_transitions(words, a, order, &mut text);
+    if write_first(bytes, &text[..at]) {
+        list_transitions(bytes, words, a, order, &mut text);
     }
 }
 
 // The lines of all transitions. What does not depend on the transition is worked out once.
-fn list_transitions(words: &[u16], a: Accepted, order: &[u16], text: &mut [u8])
-    requires { ⌜ Ordered (now words) a (now order) × (length (now text) ≡ 65536) ⌝ }
+fn list_transitions(bytes: &[u8], words: &[u16], a: Accepted, order: &[u16], text: &mut [u8])
+    requires { ⌜ Accepts (now bytes) (now words) a (now order) × (length (now text) ≡ 65536) ⌝ }
 {
     let l = a.layout;
     let rows = l.rows_at;
@@ -44,7 +64,7 @@ fn list_transitions(words: &[u16], a: Accepted, order: &[u16], text: &mut [u8])
     while k < count {
         let part = put_lines(words, a, &marks, own, order, k, text);
         let at = part.at;
-        if !io::write_all(STDOUT_FILENO, &text[..at]) {
+        if !write_lines(bytes, a, k, part.next, &text[..at]) {
             return;
         }
         k = part.next;

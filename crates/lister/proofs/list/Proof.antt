@@ -1,5 +1,5 @@
 -- Accepted bytes are listed by their words and their order, which the judgement leaves.
-use mathlib.Core.Path.{sym}
+use mathlib.Core.Path.{sym, _∙_}
 use borrow.Author.Needs.{needs}
 use lib.Seq.{length-take-le}
 use Rattle.lister.proofs.list.Statement.{statement}
@@ -28,16 +28,20 @@ slice-aggregate-list-accepted-2 c =
 
 list-accepted-requires : tie.Need-list-accepted-requires
 list-accepted-requires c κs =
-    let j = c .before .before .before in
-    let ju = j .before .before .before in
-    let r = ju .judge-bytes .ensures .ready _ (j .judged .given .1) in
-    rw (r .words-stand) (r .ordered)
+    let ju = c .before .before .before in
+    let jud = ju .before .before .before in
+    let j = jud .judge-bytes .ensures in
+    let r = j .ready _ (ju .judged .given .1) in
+    record { judged-so = sym (j .answered) ∙ ju .judged .given .1; words-are = r .words-stand; ordered = rw (r .words-stand) (r .ordered) }
 
 enum-known-judged-2 : tie.Need-enum-known-judged-2
 enum-known-judged-2 c = search needs
 
 list-refused-requires : tie.Need-list-refused-requires
-list-refused-requires c κs = search needs
+list-refused-requires c κs =
+    let j = c .before in
+    let ju = j .before .before .before in
+    sym (ju .judge-bytes .ensures .answered) ∙ j .judged2 .given .1
 
 returns : tie.Need-returns
 returns c = search needs

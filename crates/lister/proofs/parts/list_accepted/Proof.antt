@@ -3,6 +3,7 @@ use mathlib.Core.Path.{sym}
 use borrow.Author.Needs.{needs}
 use lib.Seq.{length-take-le}
 use Rattle.lister.proofs.BytesJudged.{headed}
+use Rattle.lister.proofs.InParts.{head-part}
 use Rattle.lister.proofs.parts.list_accepted.Statement.{statement}
 use Rattle.lister.proofs.parts.list_accepted.Tie as tie
 
@@ -15,17 +16,20 @@ slice-aggregate-put-head c = search needs
 put-head-requires : tie.Need-put-head-requires
 put-head-requires c κs =
     let l = c .before in
-    let s = l .before .before .before in
-    headed (s .pre) (sym (l .large-buffer .ensures))
+    let s = l .before .before .before .before in
+    headed (s .pre .ordered) (sym (l .large-buffer .ensures))
 
 array-share-prefix-text : tie.Need-array-share-prefix-text
 array-share-prefix-text c = search needs
 
-slice-aggregate-write-all : tie.Need-slice-aggregate-write-all
-slice-aggregate-write-all c = sym (length-take-le _ _ (search needs))
+slice-aggregate-write-first : tie.Need-slice-aggregate-write-first
+slice-aggregate-write-first c = sym (length-take-le _ _ (search needs))
 
-write-all-requires : tie.Need-write-all-requires
-write-all-requires c κs = search needs
+write-first-requires : tie.Need-write-first-requires
+write-first-requires c κs =
+    let p = c .before .before in
+    let s = p .before .before .before .before .before .before in
+    head-part (s .pre) (p .put-head .ensures)
 
 slice-aggregate-list-transitions : tie.Need-slice-aggregate-list-transitions
 slice-aggregate-list-transitions c = search needs
@@ -47,8 +51,8 @@ list-accepted-spec =
     slice-aggregate-put-head
     put-head-requires
     array-share-prefix-text
-    slice-aggregate-write-all
-    write-all-requires
+    slice-aggregate-write-first
+    write-first-requires
     slice-aggregate-list-transitions
     list-transitions-requires
     returns

@@ -1,7 +1,8 @@
--- The line of a refusal fits, and all of it is written.
+-- The line of a refusal fits, and it is the first part of the listing.
 use mathlib.Core.Path.{sym}
 use borrow.Author.Needs.{needs}
 use lib.Seq.{length-take-le}
+use Rattle.lister.proofs.InParts.{refused-part}
 use Rattle.lister.proofs.parts.list_refused.Statement.{statement}
 use Rattle.lister.proofs.parts.list_refused.Tie as tie
 
@@ -14,11 +15,14 @@ put-refused-requires c κs = search needs
 array-share-prefix-text : tie.Need-array-share-prefix-text
 array-share-prefix-text c = search needs
 
-slice-aggregate-write-all : tie.Need-slice-aggregate-write-all
-slice-aggregate-write-all c = sym (length-take-le _ _ (search needs))
+slice-aggregate-write-first : tie.Need-slice-aggregate-write-first
+slice-aggregate-write-first c = sym (length-take-le _ _ (search needs))
 
-write-all-requires : tie.Need-write-all-requires
-write-all-requires c κs = search needs
+write-first-requires : tie.Need-write-first-requires
+write-first-requires c κs =
+    let p = c .before .before in
+    let s = p .before .before .before in
+    refused-part _ _ (s .pre) (p .put-refused .ensures .0)
 
 returns : tie.Need-returns
 returns c = search needs
@@ -30,6 +34,6 @@ list-refused-spec =
     slice-aggregate-put-refused
     put-refused-requires
     array-share-prefix-text
-    slice-aggregate-write-all
-    write-all-requires
+    slice-aggregate-write-first
+    write-first-requires
     returns)
