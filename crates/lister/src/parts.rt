@@ -1,5 +1,6 @@
-// The parts of a listing, each put into a buffer and then written. What a writing call does no contract can say; so what is handed to
-// it is asked for, and the callers show it. A write that fails ends the listing.
+// The parts of a listing, each put into a buffer and then written. No contract can say what a writing call does. So the two functions
+// that write ask for the part that they are to write, and their callers show it; what they are handed beside it says which part it
+// is. A write that fails ends the listing.
 ghost use mathlib.Core.Path.{_≡_};
 ghost use Prim.Native.Nat.{_-_};
 ghost use lib.ListN.{length};
@@ -23,7 +24,7 @@ fn write_first(bytes: &[u8], part: &[u8]) -> bool
     io::write_all(STDOUT_FILENO, part)
 }
 
-// Writes the lines of the transitions `from` to `to`, the last left out, of the listing of the bytes; says whether it could.
+// Writes the lines of the transitions from number `from` on, those below `to`, of the listing of the bytes; says whether it could.
 fn write_lines(bytes: &[u8], a: Accepted, from: usize, to: usize, part: &[u8]) -> bool
     requires { ⌜ now part ≡ linesFrom (wordsOf (now bytes)) (a .layout) from (to - from) ⌝ }
 {
