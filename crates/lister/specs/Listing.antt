@@ -17,13 +17,13 @@ use Rattle.strategy.specs.Judge.{proposalIn, refusedAt, judgedOf}
 use Rattle.nocturenc.specs.Requests.{reported, keyOf, assignedOf}
 use Rattle.listing.specs.Text.{acceptedLine, orderLine, transitionLine, refusedLine}
 
--- the words of bytes, low byte first; a byte left over makes none
+-- the words of bytes, low byte first ("The formula table"); a byte left over makes none
 unfoldable pub wordsOf : List ℕ → List ℕ
 wordsOf [] = []
 wordsOf (low ∷ []) = []
 wordsOf (low ∷ high ∷ bytes) = (low + 256 * high) ∷ wordsOf bytes
 
--- the judgement: 17 first, on the bytes, and then that of their words
+-- the judgement: 17 first, on the bytes read, and then that of their words ("Refusal numbers, in the order of checks")
 unfoldable pub judgedBytes : List ℕ → Judged
 judgedBytes bytes = cond (eqb (length bytes % 2) 1) (refusedAt 17 (length bytes / 2)) (judgedOf (wordsOf bytes))
 
