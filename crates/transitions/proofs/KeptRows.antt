@@ -6,7 +6,7 @@ use native.Mathlib.Omega.{arith}
 use native.Mathlib.Numerals.{sub-one}
 use native.Mathlib.Nat.{mul-one, div-one}
 use mathlib.Core.Path.{_≡_, refl, sym, ap, ap₂, _∙_}
-use mathlib.Core.Bool.{Bool, true, false, cond, not, _||_, false≢true}
+use mathlib.Core.Bool.{Bool, true, false, cond, not, _||_}
 use mathlib.Core.List.{List, [], _∷_, _++_, append-nil}
 use lib.Dec.{eqb, ltb}
 use borrow.Author.Tests.{ltb-false, lt-ltb, eqb-true, eqb-false}
@@ -27,7 +27,7 @@ use Rattle.counting.proofs.KeysUnder.{productOf, AllWithin, within-more, factor
 use Rattle.transitions.specs.declared.Shares.{Shares}
 use Rattle.transitions.specs.declared.Shares.the-variants.{Each, All, One, Done}
 use Rattle.transitions.specs.declared.Turn.{Turn}
-use Rattle.transitions.specs.Kept.{oneTurn, turnOf, sharesOf, isDone}
+use Rattle.transitions.specs.Kept.{oneTurn, turnOf, sharesOf, toCome}
 use Rattle.transitions.proofs.Sharing.{Fits, divided, fits-next}
 
 -- a row of a form, its children being read with one level less
@@ -115,11 +115,12 @@ module _ (A : List Label) (rows marks reads : List ℕ) (left : ℕ) where
   none-after zero i = refl
   none-after (suc m) i = none-after m (endOf rows i)
 
-  pub kept-done : (s : Shares) (m i : ℕ) → isDone s ≡ true → keptFrom s m i ≡ []
-  kept-done (Each k all) m i e = absurd (false≢true e)
-  kept-done All m i e = absurd (false≢true e)
-  kept-done (One k) m i e = absurd (false≢true e)
-  kept-done Done m i e = none-after m i
+  pub kept-to-come : (s : Shares) (m i : ℕ) → keptFrom s (toCome s m) i ≡ keptFrom s m i
+  unfolding keptFrom
+  kept-to-come (Each k all) m i = refl
+  kept-to-come All m i = refl
+  kept-to-come (One k) m i = refl
+  kept-to-come Done m i = sym (none-after m i)
 
 some-more : (more : ℕ) → 0 < suc more
 some-more more = omega arith

@@ -4,12 +4,13 @@ use Prim.Native.Nat.{ℕ, _-_, _<_, _≤_}
 use native.Mathlib.Omega.{arith}
 use mathlib.Core.Path.{_≡_, refl, sym, ap, subst, _∙_}
 use mathlib.Core.Bool.{Bool, true, false}
-use mathlib.Core.List.{List, [], _∷_}
+use mathlib.Core.List.{List, _∷_}
 use lib.ListN.{length, set}
+use borrow.Author.Tests.{eq-eqb}
 use Rattle.paper.specs.declared.Label.{Label}
 use Rattle.paper.specs.Formula.{ℓ}
 use Rattle.paper.specs.Structure.Kept.{keptAt}
-use Rattle.table.specs.Rows.{kindOf, endOf}
+use Rattle.table.specs.Rows.{kindOf, endOf, meets}
 use Rattle.table.specs.Formula.{formulaAt}
 use Rattle.table.specs.Walk.{expressionsAt, firstAt, Walkable}
 use Rattle.table.proofs.Rules.{number-of}
@@ -19,10 +20,11 @@ use Rattle.counting.specs.Marks.{Marked}
 use Rattle.counting.specs.Keys.{total, keysAt}
 use Rattle.counting.proofs.KeysUnder.{totalsFrom, numbers-step}
 use Rattle.transitions.specs.declared.Shares.{Shares}
+use Rattle.transitions.specs.declared.Shares.the-variants.{Each, All, One, Done}
 use Rattle.transitions.specs.declared.Turn.{Turn}
-use Rattle.transitions.specs.Kept.{CanTake, turnOf, sharesOf, isDone, markedBy, Keepable, KeptAfter}
+use Rattle.transitions.specs.Kept.{CanTake, turnOf, sharesOf, toCome, markedBy, Keepable, KeptAfter}
 use Rattle.transitions.proofs.Sharing.{Fits, fits-take, fits-next, fits-on}
-use Rattle.transitions.proofs.KeptRows.{kept-none, kept-lone, eachUnder, keptIn, keptFrom, kept-step, kept-end, kept-done, fits-under, kept-under}
+use Rattle.transitions.proofs.KeptRows.{kept-none, kept-lone, eachUnder, keptIn, keptFrom, kept-step, kept-end, kept-to-come, fits-under, kept-under}
 use Rattle.transitions.proofs.MarkedBytes.{marked-append}
 
 -- a walk that does not take place sets nothing, and a leaf's walk sets its own byte
@@ -68,13 +70,14 @@ module _ {rows marks : List ℕ} {#N i left k kind m₀ : ℕ} {c₀ : Label} {s
     marks-all = λ A marked reads. refl;
   }
 
-  -- once those still to come keep nothing, the bytes are those of key k
-  taking-stops : {out : List ℕ} {s : Shares} {c : Label} {m : ℕ} → Taking rows marks #N left out₀ s₀ c₀ m₀ out s c m
-      → ((A : List Label) (reads : List ℕ) → keptFrom A rows marks reads (left - 1) s m (c .0) ≡ []) → KeptAfter rows marks left i k on out₀ out
+  -- with no expression left, the bytes are those of key k
+  pub taking-ends : {out : List ℕ} {s : Shares} {c : Label} {m : ℕ} → Taking rows marks #N left out₀ s₀ c₀ m₀ out s c m → m ≤ 0
+      → KeptAfter rows marks left i k on out₀ out
   unfolding markedBy
-  taking-stops {out} t none = record {
+  taking-ends {out} {s} {c} {m} t done = record {
     bytes-are = λ A marked reads. rw is-on
-        (ap (λ ls. markedBy ls out) (sym (none A reads)) ∙ t .marks-all A marked reads ∙ ap (λ ls. markedBy ls out₀) (sym (all A marked reads)));
+        (ap (λ ls. markedBy ls out) (sym (kept-end A rows marks reads (left - 1) s m (c .0) (omega arith))) ∙ t .marks-all A marked reads
+        ∙ ap (λ ls. markedBy ls out₀) (sym (all A marked reads)));
   }
     where
       all : (A : List Label) → Marked A marks → (reads : List ℕ)
@@ -83,14 +86,27 @@ module _ {rows marks : List ℕ} {#N i left k kind m₀ : ℕ} {c₀ : Label} {s
           rw (m-is, number-of c-is, s-is, p .own-are, e)
           (kept-under marks left k (p .walkable) deep (omega arith) few among A marked reads)
 
-  -- so with no expression left, and where none of those left takes part
-  pub taking-ends : {out : List ℕ} {s : Shares} {c : Label} {m : ℕ} → Taking rows marks #N left out₀ s₀ c₀ m₀ out s c m → m ≤ 0
-      → KeptAfter rows marks left i k on out₀ out
-  taking-ends {s = s} {c} {m} t done = taking-stops t (λ A reads. kept-end A rows marks reads (left - 1) s m (c .0) (omega arith))
+-- of those still to come no more are walked to
+module _ {rows : List ℕ} {#N : ℕ} where
+  along-to-come : (s : Shares) {m i : ℕ} → i ≤ #N → Along rows #N m i → Along rows #N (toCome s m) i
+  unfolding meets
+  along-to-come (Each k all) h a = a
+  along-to-come All h a = a
+  along-to-come (One k) h a = a
+  along-to-come Done {i = i} h a = record { shaped = a .shaped; stop = i; within = h; meet = eq-eqb i i refl }
 
-  pub taking-done : {out : List ℕ} {s : Shares} {c : Label} {m : ℕ} → Taking rows marks #N left out₀ s₀ c₀ m₀ out s c m → isDone s ≡ true
-      → KeptAfter rows marks left i k on out₀ out
-  taking-done {s = s} {c} {m} t done = taking-stops t (λ A reads. kept-done A rows marks reads (left - 1) s m (c .0) done)
+fits-to-come : (rows marks : List ℕ) (left : ℕ) (s : Shares) (m i : ℕ) → Fits s (totalsFrom rows marks left m i)
+    → Fits s (totalsFrom rows marks left (toCome s m) i)
+fits-to-come rows marks left (Each k all) m i f = f
+fits-to-come rows marks left All m i f = f
+fits-to-come rows marks left (One k) m i f = f
+fits-to-come rows marks left Done m i f = tt
+
+pub to-come-most : (s : Shares) (m : ℕ) → toCome s m ≤ m
+to-come-most (Each k all) m = omega arith
+to-come-most All m = omega arith
+to-come-most (One k) m = omega arith
+to-come-most Done m = omega arith
 
 module _ {rows marks : List ℕ} {#N left : ℕ} {out₀ : List ℕ} {s₀ : Shares} {c₀ : Label} {m₀ : ℕ} {out : List ℕ} {s : Shares} {c : Label} {m : ℕ}
     (t : Taking rows marks #N left out₀ s₀ c₀ m₀ out s c m) (some : 0 < m) where
@@ -130,13 +146,14 @@ module _ {rows marks : List ℕ} {#N left : ℕ} {out₀ : List ℕ} {s₀ : Sha
       }
 
       -- and after it, with what it keeps set and c moved to its end, it holds again
-      pub taking-turns : {out′ : List ℕ} {s′ : Shares} {c′ : Label} → length out′ ≡ length out
-          → KeptAfter rows marks (left - 1) (c .0) (u .key) (u .on) out out′ → s′ ≡ u .next → c′ ≡ ℓ (endOf rows (c .0))
-          → Taking rows marks #N left out₀ s₀ c₀ m₀ out′ s′ c′ (m - 1)
-      taking-turns {out′} {s′} {c′} same kept s-is c-is = record {
+      pub taking-turns : {out′ : List ℕ} {s′ : Shares} {c′ : Label} {m′ : ℕ} → length out′ ≡ length out
+          → KeptAfter rows marks (left - 1) (c .0) (u .key) (u .on) out out′ → s′ ≡ u .next → c′ ≡ ℓ (endOf rows (c .0)) → m′ ≡ toCome s′ (m - 1)
+          → Taking rows marks #N left out₀ s₀ c₀ m₀ out′ s′ c′ m′
+      taking-turns {out′} {s′} {c′} {m′} same kept s-is c-is m-is = record {
         same-length = same ∙ t .same-length;
-        along = rw (number-of c-is) (along-next (t .along) some);
-        fits = rw (number-of c-is, next-is) (fits-next own others s fits-here);
+        along = let w = taking-on in
+            rw (number-of c-is, m-is) (along-to-come s′ (w .shaped .within (c .0) (w .here)) (along-next (t .along) some));
+        fits = rw (number-of c-is, m-is) (fits-to-come rows marks (left - 1) s′ (m - 1) (endOf rows (c .0)) (rw next-is (fits-next own others s fits-here)));
         marks-all = again;
       }
         where
@@ -144,10 +161,10 @@ module _ {rows marks : List ℕ} {#N left : ℕ} {out₀ : List ℕ} {s₀ : Sha
           next-is = s-is ∙ ap (λ u. u .next) turn-here
 
           again : (A : List Label) → Marked A marks → (reads : List ℕ)
-              → markedBy (keptFrom A rows marks reads (left - 1) s′ (m - 1) (c′ .0)) out′ ≡ markedBy (keptFrom A rows marks reads (left - 1) s₀ m₀ (c₀ .0)) out₀
+              → markedBy (keptFrom A rows marks reads (left - 1) s′ m′ (c′ .0)) out′ ≡ markedBy (keptFrom A rows marks reads (left - 1) s₀ m₀ (c₀ .0)) out₀
           again A marked reads =
               let turned = kept .bytes-are A marked reads ∙ ap (λ u. markedBy (keptIn A rows marks reads (left - 1) u (c .0)) out) turn-here in
               let rest = keptFrom A rows marks reads (left - 1) (turnOf s own .next) (m - 1) (endOf rows (c .0)) in
-              rw (number-of c-is, next-is, turned)
+              rw (number-of c-is, m-is, kept-to-come A rows marks reads (left - 1) s′ (m - 1) (endOf rows (c .0)), next-is, turned)
               (sym (marked-append (keptIn A rows marks reads (left - 1) (turnOf s own) (c .0)) rest out)
               ∙ ap (λ ls. markedBy ls out) (sym (kept-step A rows marks reads (left - 1) s m (c .0) some)) ∙ t .marks-all A marked reads)

@@ -46,12 +46,12 @@ unfoldable pub sharesOf : Bool → Distinct → ℕ → Shares
 sharesOf true keys k = Each k (total keys)
 sharesOf false keys k = cond (keys .empty) All (One k)
 
--- none of those still to come takes part
-abbrev pub isDone : Shares → Bool
-isDone (Each k all) = false
-isDone All = false
-isDone (One k) = false
-isDone Done = true
+-- of m children still to come, how many there are to walk to: none where none of them takes part
+abbrev pub toCome : Shares → ℕ → ℕ
+toCome (Each k all) m = m
+toCome All m = m
+toCome (One k) m = m
+toCome Done m = 0
 
 -- the bytes of some labels set to 1, the others as they were
 unfoldable pub markedBy : List Label → List ℕ → List ℕ

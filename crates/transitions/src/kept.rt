@@ -6,7 +6,7 @@ ghost use mathlib.Core.List.{_++_};
 ghost use Prim.Native.Nat.{_≤_, _<_};
 ghost use lib.ListN.{length, drop, replicate};
 ghost use Rattle.table.specs.Walk.{Walkable};
-ghost use Rattle.transitions.specs.Kept.{CanTake, turnOf, sharesOf, isDone, Keepable, KeptAfter, MarkedKept};
+ghost use Rattle.transitions.specs.Kept.{CanTake, turnOf, sharesOf, toCome, Keepable, KeptAfter, MarkedKept};
 use crate::Shares;
 use crate::Turn;
 use counting::Distinct;
@@ -73,15 +73,15 @@ fn shares_of(each: bool, keys: Distinct, k: u64) -> Shares
     Shares::One(k)
 }
 
-// Whether none of the children still to come takes part.
-fn is_done(s: Shares) -> bool
-    ensures { λ r. ⌜ r ≡ isDone s ⌝ }
+// How many of m children still to come there are to walk to: none where none of them takes part.
+fn to_come(s: Shares, m: u16) -> u16
+    ensures { λ r. ⌜ r ≡ toCome s m ⌝ }
 {
     match s {
-        Shares::Each(_, _) => false,
-        Shares::All => false,
-        Shares::One(_) => false,
-        Shares::Done => true,
+        Shares::Each(_, _) => m,
+        Shares::All => m,
+        Shares::One(_) => m,
+        Shares::Done => 0,
     }
 }
 
@@ -120,15 +120,12 @@ pub fn keep(
             let mut c = first_of(rows, at);
             let mut m = expressions_of(rows, at);
             while 0 < m {
-                if is_done(s) {
-                    return;
-                }
                 let keys = keys_of(rows, marks, n, c, left - 1);
                 let t = turn_of(s, total_of(keys));
                 keep(rows, marks, n, c, left - 1, keys, t.key, t.on, out);
                 s = t.next;
                 c = end_of(rows, c);
-                m -= 1;
+                m = to_come(s, m - 1);
             }
         }
         7..=65535 => {}
