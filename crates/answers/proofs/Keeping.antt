@@ -27,7 +27,10 @@ use Rattle.table.specs.Sections.{rowsIn, readsIn, chosenIn}
 use Rattle.rows.specs.Formula.{formulaAt}
 use Rattle.rows.proofs.Rules.{rest}
 use Rattle.written.proofs.Words.{map-back, word-mem}
+use Rattle.rows.specs.Walk.{Walkable}
+use Rattle.counting.specs.declared.Distinct.{Distinct}
 use Rattle.counting.specs.Marks.{Marked, AllBelow}
+use Rattle.counting.specs.Keys.{keysAt}
 use Rattle.strategy.specs.declared.Accepted.{Accepted}
 use Rattle.strategy.specs.Judge.{proposalIn}
 use Rattle.strategy.proofs.Held.{parts-of, Reached, reached, walkable}
@@ -86,6 +89,9 @@ module _ (words : List ℕ) (a : Accepted) (e : AcceptedAs words a) where
   lent-marked : {marks : List ℕ} → Marked (map ℓ lentChosen) marks → Marked A marks
   lent-marked {marks} m = subst (λ ws. Marked (map ℓ ws) marks) chosen-lent m
 
+  pub lent-walkable : Walkable lentRows (l .rows) 0
+  lent-walkable = rw rows-lent (walkable (parts-of words l (is-sound words a e)))
+
   pub marks-length : (k : ℕ) → length (marksOf words l k) ≡ l .rows
   marks-length k = rw (u .labels-are) (length-bytes (isKept f A (keyOf words l k)) (l .rows))
 
@@ -105,12 +111,13 @@ module _ (words : List ℕ) (a : Accepted) (e : AcceptedAs words a) where
     says : TransitionSays (l .variables) f A k
     says = transition-says (l .variables) f A (u .well-formed) (is-strategy words a e .homogeneous) (is-strategy words a e .minimal) (u .within .chosen-ascend) k among
 
-    pub keepable : {marks out : List ℕ} → Marked (map ℓ lentChosen) marks → length out ≡ 4096 → Keepable lentRows marks out (l .rows) 0 64 k true
-    keepable {marks} {out} m room =
+    pub keepable : {marks out : List ℕ} {own : Distinct} → Marked (map ℓ lentChosen) marks → own ≡ keysAt lentRows marks 64 0 → length out ≡ 4096
+        → Keepable lentRows marks out (l .rows) 0 64 own k true
+    keepable {marks} {out} {own} m own-are room =
         rw rows-lent
         (transition-keepable (l .variables) f A (u .well-formed) (is-strategy words a e .homogeneous) (is-strategy words a e .minimal) (u .within .chosen-ascend) k among
         (readsIn words l) refl (walkable (parts-of words l (is-sound words a e))) (lent-marked m) (omega (arith, count-is words a e, few-transitions words a e))
-        out (omega (arith, u .most-rows)))
+        own (rw rows-lent at own-are) out (omega (arith, u .most-rows)))
 
     -- the bytes
     marks-are : marksOf words l k ≡ kthBytes f A k (l .rows)

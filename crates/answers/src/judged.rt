@@ -7,7 +7,9 @@ use crate::Filled;
 use crate::filling::fill_bytes;
 use crate::filling::fill_words;
 use crate::filling::refused;
+use counting::keys::keys_of;
 use counting::marks::marks_of;
+use paper::Label;
 use strategy::Accepted;
 use transitions::assigned::count_kept;
 use transitions::assigned::fill_assigned;
@@ -23,7 +25,8 @@ fn keep(words: &[u16], a: Accepted, k: usize, kept: &mut [u8]) -> usize
     let chosen = l.chosen_at;
     let n = l.rows;
     let marks = marks_of(&words[chosen..]);
-    mark_kept(&words[rows..], &marks, n as u16, k as u64, kept);
+    let own = keys_of(&words[rows..], &marks, n as u16, Label(0), 64);
+    mark_kept(&words[rows..], &marks, n as u16, own, k as u64, kept);
     count_kept(&words[chosen..], &kept[..n])
 }
 

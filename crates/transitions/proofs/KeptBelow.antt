@@ -12,6 +12,7 @@ use Rattle.paper.specs.Structure.KeyCount.{keyCountOf, numberOf, numberOfEach}
 use Rattle.paper.specs.Structure.Kept.{keptAt, keptEach, keptAny, keptAll}
 use Rattle.paper.proofs.Readings.{AtLeaves, AtLeavesOf}
 use Rattle.rows.specs.Formula.{formulaAt}
+use Rattle.counting.specs.declared.Distinct.{Distinct}
 use Rattle.counting.proofs.LeafLabels.{leaves-hold}
 use Rattle.transitions.specs.Kept.{markedBy, Keepable, KeptAfter, MarkedKept}
 use Rattle.transitions.proofs.MarkedBytes.{AllLabels, no-label, _and_, marked-bytes, marked-front}
@@ -61,8 +62,8 @@ module _ (P : Label → Type 0) where
       every-kept (f ⨾ fs) h = all-append (first-kept f (all-kept f 0 (h .0))) (every-kept fs (h .1))
 
 -- cleared bytes, with those of the kept labels set
-pub kept-marked : {rows marks out cleared after : List ℕ} {#N k : ℕ} → Keepable rows marks out #N 0 64 k true → cleared ≡ replicate #N 0 ++ drop #N out
-    → KeptAfter rows marks 64 0 k true cleared after → MarkedKept rows marks #N k out after
+pub kept-marked : {rows marks out cleared after : List ℕ} {#N k : ℕ} {own : Distinct} → Keepable rows marks out #N 0 64 own k true
+    → cleared ≡ replicate #N 0 ++ drop #N out → KeptAfter rows marks 64 0 k true cleared after → MarkedKept rows marks #N k out after
 kept-marked {rows} {marks} {out} {after = after} {#N} {k} p c q = record {
   bytes-are = λ A marked reads.
       let f = formulaAt rows reads 64 0 in

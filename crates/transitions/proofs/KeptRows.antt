@@ -27,7 +27,7 @@ use Rattle.counting.proofs.KeysUnder.{productOf, AllWithin, within-more, factor
 use Rattle.transitions.specs.declared.Shares.{Shares}
 use Rattle.transitions.specs.declared.Shares.the-variants.{Each, All, One, Done}
 use Rattle.transitions.specs.declared.Turn.{Turn}
-use Rattle.transitions.specs.Kept.{oneTurn, turnOf, sharesOf}
+use Rattle.transitions.specs.Kept.{oneTurn, turnOf, sharesOf, toCome}
 use Rattle.transitions.proofs.Sharing.{Fits, divided, fits-next}
 
 -- a row of a form, its children being read with one level less
@@ -114,6 +114,13 @@ module _ (A : List Label) (rows marks reads : List ℕ) (left : ℕ) where
   unfolding keptFrom turnOf
   none-after zero i = refl
   none-after (suc m) i = none-after m (endOf rows i)
+
+  pub kept-to-come : (s : Shares) (m i : ℕ) → keptFrom s (toCome s m) i ≡ keptFrom s m i
+  unfolding keptFrom
+  kept-to-come (Each k all) m i = refl
+  kept-to-come All m i = refl
+  kept-to-come (One k) m i = refl
+  kept-to-come Done m i = sym (none-after m i)
 
 some-more : (more : ℕ) → 0 < suc more
 some-more more = omega arith

@@ -25,6 +25,7 @@ use Rattle.paper.proofs.Numbers.{kept-sub, numbers-say}
 use Rattle.paper.proofs.Keys.{keys-have-length}
 use Rattle.rows.specs.Formula.{formulaAt}
 use Rattle.rows.specs.Walk.{Walkable}
+use Rattle.counting.specs.declared.Distinct.{Distinct}
 use Rattle.counting.specs.Marks.{Marked}
 use Rattle.counting.specs.Keys.{total, keysAt}
 use Rattle.counting.proofs.KeyNumbers.{keys-number-within}
@@ -81,5 +82,7 @@ module _ (#V : ℕ) (f : Formula) (A : List Label) (formed : WellFormed #V f) (h
     number-is : total (keysAt rows marks 64 0) ≡ length (keys f A)
     number-is = keys-number-within rows marks 64 0 A marked w reads (subst (λ n. n ≤ 65535) count few) ∙ sym count
 
-    pub transition-keepable : (out : List ℕ) → #N ≤ length out → Keepable rows marks out #N 0 64 k true
-    transition-keepable out room = record { walkable = w; room = room; few = λ on. omega (arith, number-is); among = λ on. omega (arith, number-is) }
+    pub transition-keepable : (own : Distinct) → own ≡ keysAt rows marks 64 0 → (out : List ℕ) → #N ≤ length out → Keepable rows marks out #N 0 64 own k true
+    transition-keepable own own-are out room =
+        let n = ap total own-are ∙ number-is in
+        record { walkable = w; room = room; own-are = own-are; few = λ on. omega arith; among = λ on. omega arith }

@@ -6,10 +6,11 @@ use mathlib.Core.Path.{_≡_, refl, sym, ap, subst, _∙_}
 use mathlib.Core.Bool.{Bool, true, false}
 use mathlib.Core.List.{List, _∷_}
 use lib.ListN.{length, set}
+use borrow.Author.Tests.{eq-eqb}
 use Rattle.paper.specs.declared.Label.{Label}
 use Rattle.paper.specs.Formula.{ℓ}
 use Rattle.paper.specs.Structure.Kept.{keptAt}
-use Rattle.rows.specs.Rows.{kindOf, endOf}
+use Rattle.rows.specs.Rows.{kindOf, endOf, meets}
 use Rattle.rows.specs.Formula.{formulaAt}
 use Rattle.rows.specs.Walk.{expressionsAt, firstAt, Walkable}
 use Rattle.rows.proofs.Rules.{number-of}
@@ -19,10 +20,11 @@ use Rattle.counting.specs.Marks.{Marked}
 use Rattle.counting.specs.Keys.{total, keysAt}
 use Rattle.counting.proofs.KeysUnder.{totalsFrom, numbers-step}
 use Rattle.transitions.specs.declared.Shares.{Shares}
+use Rattle.transitions.specs.declared.Shares.the-variants.{Each, All, One, Done}
 use Rattle.transitions.specs.declared.Turn.{Turn}
-use Rattle.transitions.specs.Kept.{CanTake, turnOf, sharesOf, markedBy, Keepable, KeptAfter}
+use Rattle.transitions.specs.Kept.{CanTake, turnOf, sharesOf, toCome, markedBy, Keepable, KeptAfter}
 use Rattle.transitions.proofs.Sharing.{Fits, fits-take, fits-next, fits-on}
-use Rattle.transitions.proofs.KeptRows.{kept-none, kept-lone, eachUnder, keptIn, keptFrom, kept-step, kept-end, fits-under, kept-under}
+use Rattle.transitions.proofs.KeptRows.{kept-none, kept-lone, eachUnder, keptIn, keptFrom, kept-step, kept-end, kept-to-come, fits-under, kept-under}
 use Rattle.transitions.proofs.MarkedBytes.{marked-append}
 
 -- a walk that does not take place sets nothing, and a leaf's walk sets its own byte
@@ -50,15 +52,21 @@ pub record Taking (rows marks : List ℕ) (#N left : ℕ) (out₀ : List ℕ) (s
       → markedBy (keptFrom A rows marks reads (left - 1) s m (c .0)) out ≡ markedBy (keptFrom A rows marks reads (left - 1) s₀ m₀ (c₀ .0)) out₀
 
 -- at row i, whose kind word is that of a join, for key k
-module _ {rows marks : List ℕ} {#N i left k kind m₀ : ℕ} {c₀ : Label} {s₀ : Shares} {out₀ : List ℕ} {on : Bool} (e : kind ≡ kindOf rows i) (join : 2 < kind)
-    (deep : left ≡ 0 → ⊥) (p : Keepable rows marks out₀ #N i left k on) (is-on : on ≡ true) {keys : Distinct} (keys-is : keys ≡ keysAt rows marks left i)
-    (s-is : s₀ ≡ sharesOf (eachUnder kind) keys k) (m-is : m₀ ≡ expressionsAt rows i) (c-is : c₀ ≡ ℓ (firstAt rows i)) where
+module _ {rows marks : List ℕ} {#N i left k kind m₀ : ℕ} {c₀ : Label} {s₀ : Shares} {out₀ : List ℕ} {own : Distinct} {on : Bool}
+    (e : kind ≡ kindOf rows i) (join : 2 < kind) (deep : left ≡ 0 → ⊥) (p : Keepable rows marks out₀ #N i left own k on) (is-on : on ≡ true)
+    (s-is : s₀ ≡ sharesOf (eachUnder kind) own k) (m-is : m₀ ≡ expressionsAt rows i) (c-is : c₀ ≡ ℓ (firstAt rows i)) where
+  few : total (keysAt rows marks left i) ≤ 65535
+  few = rw (p .own-are) at (p .few is-on)
+
+  among : k < total (keysAt rows marks left i)
+  among = rw (p .own-are) at (p .among is-on)
+
   -- it holds as the loop begins
   pub taking-begins : Taking rows marks #N left out₀ s₀ c₀ m₀ out₀ s₀ c₀ m₀
   taking-begins = record {
     same-length = refl;
     along = rw (m-is, number-of c-is) (along-under (p .walkable));
-    fits = rw (m-is, number-of c-is, s-is, keys-is, e) (fits-under marks left k (p .walkable) deep (omega arith) (p .few is-on) (p .among is-on));
+    fits = rw (m-is, number-of c-is, s-is, p .own-are, e) (fits-under marks left k (p .walkable) deep (omega arith) few among);
     marks-all = λ A marked reads. refl;
   }
 
@@ -75,8 +83,30 @@ module _ {rows marks : List ℕ} {#N i left k kind m₀ : ℕ} {c₀ : Label} {s
       all : (A : List Label) → Marked A marks → (reads : List ℕ)
           → keptAt A (formulaAt rows reads left i) k ≡ keptFrom A rows marks reads (left - 1) s₀ m₀ (c₀ .0)
       all A marked reads =
-          rw (m-is, number-of c-is, s-is, keys-is, e)
-          (kept-under marks left k (p .walkable) deep (omega arith) (p .few is-on) (p .among is-on) A marked reads)
+          rw (m-is, number-of c-is, s-is, p .own-are, e)
+          (kept-under marks left k (p .walkable) deep (omega arith) few among A marked reads)
+
+-- of those still to come no more are walked to
+module _ {rows : List ℕ} {#N : ℕ} where
+  along-to-come : (s : Shares) {m i : ℕ} → i ≤ #N → Along rows #N m i → Along rows #N (toCome s m) i
+  unfolding meets
+  along-to-come (Each k all) h a = a
+  along-to-come All h a = a
+  along-to-come (One k) h a = a
+  along-to-come Done {i = i} h a = record { shaped = a .shaped; stop = i; within = h; meet = eq-eqb i i refl }
+
+fits-to-come : (rows marks : List ℕ) (left : ℕ) (s : Shares) (m i : ℕ) → Fits s (totalsFrom rows marks left m i)
+    → Fits s (totalsFrom rows marks left (toCome s m) i)
+fits-to-come rows marks left (Each k all) m i f = f
+fits-to-come rows marks left All m i f = f
+fits-to-come rows marks left (One k) m i f = f
+fits-to-come rows marks left Done m i f = tt
+
+pub to-come-most : (s : Shares) (m : ℕ) → toCome s m ≤ m
+to-come-most (Each k all) m = omega arith
+to-come-most All m = omega arith
+to-come-most (One k) m = omega arith
+to-come-most Done m = omega arith
 
 module _ {rows marks : List ℕ} {#N left : ℕ} {out₀ : List ℕ} {s₀ : Shares} {c₀ : Label} {m₀ : ℕ} {out : List ℕ} {s : Shares} {c : Label} {m : ℕ}
     (t : Taking rows marks #N left out₀ s₀ c₀ m₀ out s c m) (some : 0 < m) where
@@ -93,8 +123,11 @@ module _ {rows marks : List ℕ} {#N left : ℕ} {out₀ : List ℕ} {s₀ : Sha
   fits-here : Fits s (own ∷ others)
   fits-here = subst (Fits s) (numbers-step _ rows m (c .0) some) (t .fits)
 
-  -- the child there has n keys, and its turn is u
-  module _ {n : ℕ} (n-is : n ≡ own) where
+  -- the child there has these keys, n in number, and its turn is u
+  module _ {keys : Distinct} (keys-are : keys ≡ keysAt rows marks (left - 1) (c .0)) {n : ℕ} (counted : n ≡ total keys) where
+    n-is : n ≡ own
+    n-is = counted ∙ ap total keys-are
+
     pub taking-take : CanTake s n
     taking-take = subst (CanTake s) (sym n-is) (fits-take own others s fits-here)
 
@@ -103,22 +136,24 @@ module _ {rows marks : List ℕ} {#N left : ℕ} {out₀ : List ℕ} {s₀ : Sha
       turn-here = u-is ∙ ap (turnOf s) n-is
 
       -- it is asked only for a key of its own
-      pub taking-asks : #N ≤ length out₀ → Keepable rows marks out #N (c .0) (left - 1) (u .key) (u .on)
+      pub taking-asks : #N ≤ length out₀ → Keepable rows marks out #N (c .0) (left - 1) keys (u .key) (u .on)
       taking-asks room = record {
         walkable = taking-on;
         room = let e = t .same-length in omega arith;
-        few = λ on. fits-on own others s fits-here (sym (ap (λ u. u .on) turn-here) ∙ on) .0;
-        among = λ on. rw turn-here (fits-on own others s fits-here (sym (ap (λ u. u .on) turn-here) ∙ on) .1);
+        own-are = keys-are;
+        few = λ on. rw keys-are (fits-on own others s fits-here (sym (ap (λ u. u .on) turn-here) ∙ on) .0);
+        among = λ on. rw (keys-are, turn-here) (fits-on own others s fits-here (sym (ap (λ u. u .on) turn-here) ∙ on) .1);
       }
 
       -- and after it, with what it keeps set and c moved to its end, it holds again
-      pub taking-turns : {out′ : List ℕ} {s′ : Shares} {c′ : Label} → length out′ ≡ length out
-          → KeptAfter rows marks (left - 1) (c .0) (u .key) (u .on) out out′ → s′ ≡ u .next → c′ ≡ ℓ (endOf rows (c .0))
-          → Taking rows marks #N left out₀ s₀ c₀ m₀ out′ s′ c′ (m - 1)
-      taking-turns {out′} {s′} {c′} same kept s-is c-is = record {
+      pub taking-turns : {out′ : List ℕ} {s′ : Shares} {c′ : Label} {m′ : ℕ} → length out′ ≡ length out
+          → KeptAfter rows marks (left - 1) (c .0) (u .key) (u .on) out out′ → s′ ≡ u .next → c′ ≡ ℓ (endOf rows (c .0)) → m′ ≡ toCome s′ (m - 1)
+          → Taking rows marks #N left out₀ s₀ c₀ m₀ out′ s′ c′ m′
+      taking-turns {out′} {s′} {c′} {m′} same kept s-is c-is m-is = record {
         same-length = same ∙ t .same-length;
-        along = rw (number-of c-is) (along-next (t .along) some);
-        fits = rw (number-of c-is, next-is) (fits-next own others s fits-here);
+        along = let w = taking-on in
+            rw (number-of c-is, m-is) (along-to-come s′ (w .shaped .within (c .0) (w .here)) (along-next (t .along) some));
+        fits = rw (number-of c-is, m-is) (fits-to-come rows marks (left - 1) s′ (m - 1) (endOf rows (c .0)) (rw next-is (fits-next own others s fits-here)));
         marks-all = again;
       }
         where
@@ -126,10 +161,10 @@ module _ {rows marks : List ℕ} {#N left : ℕ} {out₀ : List ℕ} {s₀ : Sha
           next-is = s-is ∙ ap (λ u. u .next) turn-here
 
           again : (A : List Label) → Marked A marks → (reads : List ℕ)
-              → markedBy (keptFrom A rows marks reads (left - 1) s′ (m - 1) (c′ .0)) out′ ≡ markedBy (keptFrom A rows marks reads (left - 1) s₀ m₀ (c₀ .0)) out₀
+              → markedBy (keptFrom A rows marks reads (left - 1) s′ m′ (c′ .0)) out′ ≡ markedBy (keptFrom A rows marks reads (left - 1) s₀ m₀ (c₀ .0)) out₀
           again A marked reads =
               let turned = kept .bytes-are A marked reads ∙ ap (λ u. markedBy (keptIn A rows marks reads (left - 1) u (c .0)) out) turn-here in
               let rest = keptFrom A rows marks reads (left - 1) (turnOf s own .next) (m - 1) (endOf rows (c .0)) in
-              rw (number-of c-is, next-is, turned)
+              rw (number-of c-is, m-is, kept-to-come A rows marks reads (left - 1) s′ (m - 1) (endOf rows (c .0)), next-is, turned)
               (sym (marked-append (keptIn A rows marks reads (left - 1) (turnOf s own) (c .0)) rest out)
               ∙ ap (λ ls. markedBy ls out) (sym (kept-step A rows marks reads (left - 1) s m (c .0) some)) ∙ t .marks-all A marked reads)

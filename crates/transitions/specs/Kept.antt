@@ -46,18 +46,26 @@ unfoldable pub sharesOf : Bool → Distinct → ℕ → Shares
 sharesOf true keys k = Each k (total keys)
 sharesOf false keys k = cond (keys .empty) All (One k)
 
+-- of m children still to come, how many there are to walk to: none where none of them takes part
+abbrev pub toCome : Shares → ℕ → ℕ
+toCome (Each k all) m = m
+toCome All m = m
+toCome (One k) m = m
+toCome Done m = 0
+
 -- the bytes of some labels set to 1, the others as they were
 unfoldable pub markedBy : List Label → List ℕ → List ℕ
 markedBy [] out = out
 markedBy (l ∷ ls) out = markedBy ls (set out (l .0) 1)
 
--- What a walk to the labels of key k of the formula at row i asks: rows to walk, a byte for each, and, where the walk takes
--- place, a number of keys within the limit and k among them.
-pub record Keepable (rows marks out : List ℕ) (#N i left k : ℕ) (on : Bool) : Type 0 where
+-- What a walk to the labels of key k of the formula at row i asks: rows to walk, a byte for each, the formula's own keys, and,
+-- where the walk takes place, a number of them within the limit and k among them.
+pub record Keepable (rows marks out : List ℕ) (#N i left : ℕ) (own : Distinct) (k : ℕ) (on : Bool) : Type 0 where
   pub walkable : Walkable rows #N i
   pub room : #N ≤ length out
-  pub few : on ≡ true → total (keysAt rows marks left i) ≤ 65535
-  pub among : on ≡ true → k < total (keysAt rows marks left i)
+  pub own-are : own ≡ keysAt rows marks left i
+  pub few : on ≡ true → total own ≤ 65535
+  pub among : on ≡ true → k < total own
 
 -- The bytes afterwards: those of the labels that key k keeps are set, whatever strategy the marks are of and whatever the
 -- stars read.

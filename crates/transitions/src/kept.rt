@@ -6,8 +6,7 @@ ghost use mathlib.Core.List.{_++_};
 ghost use Prim.Native.Nat.{_≤_, _<_};
 ghost use lib.ListN.{length, drop, replicate};
 ghost use Rattle.rows.specs.Walk.{Walkable};
-ghost use Rattle.counting.specs.Keys.{total, keysAt};
-ghost use Rattle.transitions.specs.Kept.{CanTake, turnOf, sharesOf, Keepable, KeptAfter, MarkedKept};
+ghost use Rattle.transitions.specs.Kept.{CanTake, turnOf, sharesOf, toCome, Keepable, KeptAfter, MarkedKept};
 use crate::Shares;
 use crate::Turn;
 use counting::Distinct;
@@ -74,27 +73,32 @@ fn shares_of(each: bool, keys: Distinct, k: u64) -> Shares
     Shares::One(k)
 }
 
-// The number of keys of the formula at a row.
-fn number_at(rows: &[u16], marks: &[u8; 4096], n: u16, at: Label, left: u16) -> u64
-    requires { ⌜ Walkable (now rows) n (at .0) ⌝ }
-    ensures { λ r. ⌜ r ≡ total (keysAt (now (rows .entry)) (now (marks .entry)) left (at .0)) ⌝ }
+// How many of m children still to come there are to walk to: none where none of them takes part.
+fn to_come(s: Shares, m: u16) -> u16
+    ensures { λ r. ⌜ r ≡ toCome s m ⌝ }
 {
-    total_of(keys_of(rows, marks, n, at, left))
+    match s {
+        Shares::Each(_, _) => m,
+        Shares::All => m,
+        Shares::One(_) => m,
+        Shares::Done => 0,
+    }
 }
 
-// Sets the bytes of the labels that key k of the formula at a row keeps, the formula being `left` levels deep at most; of none
-// where `on` is false.
+// Sets the bytes of the labels that key k of the formula at a row keeps, the formula being `left` levels deep at most and `own`
+// its keys; of none where `on` is false. The keys of a child are counted once, for its turn and for the walk that goes on there.
 pub fn keep(
     rows: &[u16],
     marks: &[u8; 4096],
     n: u16,
     at: Label,
     left: u16,
+    own: Distinct,
     k: u64,
     on: bool,
     out: &mut [u8],
 )
-    requires { ⌜ Keepable (now rows) (now marks) (now out) n (at .0) left k on ⌝ }
+    requires { ⌜ Keepable (now rows) (now marks) (now out) n (at .0) left own k on ⌝ }
     ensures { λ _. ⌜ KeptAfter (now (rows .entry)) (now (marks .entry)) left (at .0) k on (now (out .entry)) (now (out .exit)) ⌝ }
 {
     let i = at.0 as usize;
@@ -112,15 +116,16 @@ pub fn keep(
         }
         3..=6 => {
             let each = (kind == 3) | (kind == 5);
-            let mut s = shares_of(each, keys_of(rows, marks, n, at, left), k);
+            let mut s = shares_of(each, own, k);
             let mut c = first_of(rows, at);
             let mut m = expressions_of(rows, at);
             while 0 < m {
-                let t = turn_of(s, number_at(rows, marks, n, c, left - 1));
-                keep(rows, marks, n, c, left - 1, t.key, t.on, out);
+                let keys = keys_of(rows, marks, n, c, left - 1);
+                let t = turn_of(s, total_of(keys));
+                keep(rows, marks, n, c, left - 1, keys, t.key, t.on, out);
                 s = t.next;
                 c = end_of(rows, c);
-                m -= 1;
+                m = to_come(s, m - 1);
             }
         }
         7..=65535 => {}
@@ -140,11 +145,12 @@ fn clear(out: &mut [u8], n: u16)
     }
 }
 
-// Fills the first n bytes with the marks of transition k: 1 for a kept label, else 0. The bytes after them stay.
-pub fn mark_kept(rows: &[u16], marks: &[u8; 4096], n: u16, k: u64, out: &mut [u8])
-    requires { ⌜ Keepable (now rows) (now marks) (now out) n 0 64 k true ⌝ }
+// Fills the first n bytes with the marks of transition k: 1 for a kept label, else 0. The bytes after them stay. `own` are the keys
+// of the whole formula, so that a caller who asks for many transitions counts them once.
+pub fn mark_kept(rows: &[u16], marks: &[u8; 4096], n: u16, own: Distinct, k: u64, out: &mut [u8])
+    requires { ⌜ Keepable (now rows) (now marks) (now out) n 0 64 own k true ⌝ }
     ensures { λ _. ⌜ MarkedKept (now (rows .entry)) (now (marks .entry)) n k (now (out .entry)) (now (out .exit)) ⌝ }
 {
     clear(out, n);
-    keep(rows, marks, n, Label(0), 64, k, true, out);
+    keep(rows, marks, n, Label(0), 64, own, k, true, out);
 }

@@ -1,7 +1,8 @@
--- The marks of the chosen labels, the walk by them, and the count of those kept: each is given what an accepted table has.
+-- The marks of the chosen labels, the keys of the whole formula, the walk by them, and the count of those kept: each is given what
+-- an accepted table has.
 use native.Mathlib.Omega.{arith}
 use borrow.Author.Needs.{needs}
-use Rattle.answers.proofs.Keeping.{parts-reached, rows-fit, lent-below, keepable, bytes-left, front-there, front-length, bytes-kept}
+use Rattle.answers.proofs.Keeping.{parts-reached, rows-fit, lent-below, lent-walkable, keepable, bytes-left, front-there, front-length, bytes-kept}
 use Rattle.answers.proofs.judged.keep.Statement.{statement}
 use Rattle.answers.proofs.judged.keep.Tie as tie
 
@@ -18,52 +19,90 @@ part-marks-of-end : tie.Need-part-marks-of-end
 part-marks-of-end c = search needs
 
 marks-of-requires : tie.Need-marks-of-requires
-marks-of-requires c κs = lent-below _ _ (c .before .before .before .before .pre .accepted) 4096 (rows-fit _ _ (c .before .before .before .before .pre .accepted))
+marks-of-requires c κs = let e = c .before .before .before .before .pre .accepted in lent-below _ _ e 4096 (rows-fit _ _ e)
+
+mul-keys-of : tie.Need-mul-keys-of
+mul-keys-of c = let r = parts-reached _ _ (c .before .before .before .before .before .pre .accepted) in omega arith
+
+sub-keys-of : tie.Need-sub-keys-of
+sub-keys-of c = let r = parts-reached _ _ (c .before .before .before .before .before .pre .accepted) in omega arith
+
+part-keys-of-start : tie.Need-part-keys-of-start
+part-keys-of-start c = let r = parts-reached _ _ (c .before .before .before .before .before .pre .accepted) in omega arith
+
+part-keys-of-end : tie.Need-part-keys-of-end
+part-keys-of-end c = search needs
+
+cast-keys-of : tie.Need-cast-keys-of
+cast-keys-of c = let r = rows-fit _ _ (c .before .before .before .before .before .before .before .pre .accepted) in search needs
+
+keys-of-requires : tie.Need-keys-of-requires
+keys-of-requires c κs = lent-walkable _ _ (c .before .before .before .before .before .before .before .pre .accepted)
 
 mul-mark-kept : tie.Need-mul-mark-kept
-mul-mark-kept c = let r = parts-reached _ _ (c .before .before .before .before .before .pre .accepted) in omega arith
+mul-mark-kept c = let r = parts-reached _ _ (c .before .before .before .before .before .before .before .before .pre .accepted) in omega arith
 
 sub-mark-kept : tie.Need-sub-mark-kept
-sub-mark-kept c = let r = parts-reached _ _ (c .before .before .before .before .before .pre .accepted) in omega arith
+sub-mark-kept c = let r = parts-reached _ _ (c .before .before .before .before .before .before .before .before .pre .accepted) in omega arith
 
 part-mark-kept-start : tie.Need-part-mark-kept-start
-part-mark-kept-start c = let r = parts-reached _ _ (c .before .before .before .before .before .pre .accepted) in omega arith
+part-mark-kept-start c = let r = parts-reached _ _ (c .before .before .before .before .before .before .before .before .pre .accepted) in omega arith
 
 part-mark-kept-end : tie.Need-part-mark-kept-end
 part-mark-kept-end c = search needs
 
 cast-mark-kept : tie.Need-cast-mark-kept
-cast-mark-kept c = let r = rows-fit _ _ (c .before .before .before .before .before .before .before .pre .accepted) in search needs
+cast-mark-kept c = let r = rows-fit _ _ (c .before .before .before .before .before .before .before .before .before .before .pre .accepted) in search needs
 
 mark-kept-requires : tie.Need-mark-kept-requires
-mark-kept-requires c κs = keepable _ _ (c .before .before .before .before .before .before .before .before .pre .accepted) _ (c .before .before .before .before .before .before .before .before .pre .there) (c .before .before .before .marks-of .ensures .marked) (c .before .before .before .before .before .before .before .before .pre .room)
+mark-kept-requires c κs =
+    let k = c .before .before .before in
+    let m = k .before .before .before in
+    let s = m .before .before .before .before .before in
+    let e = s .pre in
+    keepable _ _ (e .accepted) _ (e .there) (m .marks-of .ensures .marked) (k .keys-of .ensures .0) (e .room)
 
 mul-count-kept : tie.Need-mul-count-kept
-mul-count-kept c = let r = parts-reached _ _ (c .before .before .before .before .before .before .before .before .before .before .before .pre .accepted) in omega arith
+mul-count-kept c =
+    let s = c .before .before .before .before .before .before .before .before .before .before .before .before .before .before in
+    let r = parts-reached _ _ (s .pre .accepted) in omega arith
 
 sub-count-kept : tie.Need-sub-count-kept
-sub-count-kept c = let r = parts-reached _ _ (c .before .before .before .before .before .before .before .before .before .before .before .pre .accepted) in omega arith
+sub-count-kept c =
+    let s = c .before .before .before .before .before .before .before .before .before .before .before .before .before .before in
+    let r = parts-reached _ _ (s .pre .accepted) in omega arith
 
 part-count-kept-start : tie.Need-part-count-kept-start
-part-count-kept-start c = let r = parts-reached _ _ (c .before .before .before .before .before .before .before .before .before .before .before .pre .accepted) in omega arith
+part-count-kept-start c =
+    let s = c .before .before .before .before .before .before .before .before .before .before .before .before .before .before in
+    let r = parts-reached _ _ (s .pre .accepted) in omega arith
 
 part-count-kept-end : tie.Need-part-count-kept-end
 part-count-kept-end c = search needs
 
 slice-reshare-prefix-count-kept : tie.Need-slice-reshare-prefix-count-kept
 slice-reshare-prefix-count-kept c =
-    let e = c .before .before .before .before .before .before .before .before .before .before .before .before .pre in
-    front-there _ _ (e .accepted) _ (e .there) _ _ (bytes-left _ _ (e .accepted) _ (e .there) (c .before .before .before .before .before .before .before .marks-of .ensures .marked) (c .before .before .before .mark-kept .ensures)) .0
+    let m = c .before .before .before in
+    let ma = m .before .before .before .before .before .before .before in
+    let s = ma .before .before .before .before .before in
+    let e = s .pre in
+    front-there _ _ (e .accepted) _ (e .there) _ _ (bytes-left _ _ (e .accepted) _ (e .there) (ma .marks-of .ensures .marked) (m .mark-kept .ensures)) .0
 
 slice-aggregate-count-kept : tie.Need-slice-aggregate-count-kept
 slice-aggregate-count-kept c =
-    let e = c .before .before .before .before .before .before .before .before .before .before .before .before .before .pre in
-    front-length _ _ (e .accepted) _ (e .there) _ _ (bytes-left _ _ (e .accepted) _ (e .there) (c .before .before .before .before .before .before .before .before .marks-of .ensures .marked) (c .before .before .before .before .mark-kept .ensures))
+    let m = c .before .before .before .before in
+    let ma = m .before .before .before .before .before .before .before in
+    let s = ma .before .before .before .before .before in
+    let e = s .pre in
+    front-length _ _ (e .accepted) _ (e .there) _ _ (bytes-left _ _ (e .accepted) _ (e .there) (ma .marks-of .ensures .marked) (m .mark-kept .ensures))
 
 count-kept-requires : tie.Need-count-kept-requires
 count-kept-requires c κs =
-    let e = c .before .before .before .before .before .before .before .before .before .before .before .before .before .pre in
-    let n = front-length _ _ (e .accepted) _ (e .there) _ _ (bytes-left _ _ (e .accepted) _ (e .there) (c .before .before .before .before .before .before .before .before .marks-of .ensures .marked) (c .before .before .before .before .mark-kept .ensures)) in
+    let m = c .before .before .before .before in
+    let ma = m .before .before .before .before .before .before .before in
+    let s = ma .before .before .before .before .before in
+    let e = s .pre in
+    let n = front-length _ _ (e .accepted) _ (e .there) _ _ (bytes-left _ _ (e .accepted) _ (e .there) (ma .marks-of .ensures .marked) (m .mark-kept .ensures)) in
     lent-below _ _ (e .accepted) _ (omega arith)
 
 same-length : tie.Need-same-length
@@ -71,7 +110,11 @@ same-length c = search needs
 
 returns : tie.Need-returns
 returns c =
-    let e = c .before .before .before .before .before .before .before .before .before .before .before .before .before .before .pre in bytes-kept _ _ (e .accepted) _ (e .there) (c .before .before .before .before .before .before .before .before .before .marks-of .ensures .marked) (c .before .before .before .before .before .mark-kept .ensures) (c .count-kept .ensures)
+    let m = c .before .before .before .before .before in
+    let ma = m .before .before .before .before .before .before .before in
+    let s = ma .before .before .before .before .before in
+    let e = s .pre in
+    bytes-kept _ _ (e .accepted) _ (e .there) (ma .marks-of .ensures .marked) (m .mark-kept .ensures) (c .count-kept .ensures)
 
 pub keep-spec : {M : Type 1} → statement M
 keep-spec =
@@ -82,6 +125,12 @@ keep-spec =
     part-marks-of-start
     part-marks-of-end
     marks-of-requires
+    mul-keys-of
+    sub-keys-of
+    part-keys-of-start
+    part-keys-of-end
+    cast-keys-of
+    keys-of-requires
     mul-mark-kept
     sub-mark-kept
     part-mark-kept-start

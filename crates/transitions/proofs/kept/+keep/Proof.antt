@@ -1,7 +1,7 @@
 -- `keep` sets the bytes of the labels that a key keeps. The recursion goes by the levels left, and the loop over the expressions
 -- under a row by what those still to come have to keep (`Taking`).
 use borrow.Author.Needs.{needs}
-use Prim.Native.Nat.{ℕ, _<_}
+use Prim.Native.Nat.{ℕ, _-_, _<_}
 use native.Mathlib.Omega.{arith}
 use mathlib.Core.Path.{refl}
 use lib.ListN.{length-set}
@@ -9,17 +9,18 @@ use borrow.Author.Tests.{not-true, not-false}
 use borrow.Fn.Kinds.{In}
 use borrow.Fn.PlainCycle.{Measures, is, falls, and}
 use Rattle.rows.proofs.Walks.{row-there, row-few, row-known}
-use Rattle.transitions.proofs.Taking.{kept-off, set-with-none, set-alone, Taking, taking-begins, taking-on, taking-take, taking-asks, taking-turns, taking-ends}
+use Rattle.transitions.proofs.Taking.{kept-off, set-with-none, set-alone, Taking, taking-begins, taking-on, taking-take, taking-asks, taking-turns, taking-ends, to-come-most}
 use Rattle.transitions.proofs.kept.keep.Reads as keep
 use Rattle.transitions.proofs.kept.keep.Kinds as kinds
 use Rattle.transitions.proofs.kept.+keep.Lts-keep as lts
 use Rattle.counting.proofs.keys.keys_of.Reads as keys-of
+use Rattle.counting.proofs.keys.total_of.Reads as total-of
 use Rattle.rows.proofs.end_of.Reads as end-of
 use Rattle.rows.proofs.kind_of.Reads as kind-of
 use Rattle.rows.proofs.walk.expressions_of.Reads as expressions-of
 use Rattle.rows.proofs.walk.first_of.Reads as first-of
-use Rattle.transitions.proofs.kept.number_at.Reads as number-at
 use Rattle.transitions.proofs.kept.shares_of.Reads as shares-of
+use Rattle.transitions.proofs.kept.to_come.Reads as to-come
 use Rattle.transitions.proofs.kept.turn_of.Reads as turn-of
 use Rattle.transitions.proofs.kept.+keep.{statement}
 use Rattle.transitions.proofs.kept.+keep.Tie.{close}
@@ -43,22 +44,24 @@ abbrev cs : ℕ → lts.Claims
 cs t = (
   kind-of.Asked,
   kind-of.Learnt,
-  keys-of.Asked,
-  keys-of.Learnt,
   shares-of.Asked,
   shares-of.Learnt,
   first-of.Asked,
   first-of.Learnt,
   expressions-of.Asked,
   expressions-of.Learnt,
-  number-at.Asked,
-  number-at.Learnt,
+  keys-of.Asked,
+  keys-of.Learnt,
+  total-of.Asked,
+  total-of.Learnt,
   turn-of.Asked,
   turn-of.Learnt,
   below t,
   keep.Post,
   end-of.Asked,
   end-of.Learnt,
+  to-come.Asked,
+  to-come.Learnt,
 )
 
 module _ (t : ℕ) where
@@ -87,93 +90,123 @@ module _ (t : ℕ) where
       let p = c .before .before .before .before .before .before .before .pre .1 in
       let h = p .walkable .here in omega (arith, p .room)
 
-  keys-of-requires : lts.Need-keys-of-requires (cs t) (here t) keep.Post Inv μ-loop
-  keys-of-requires c κs = c .before .before .before .before .before .before .before .before .pre .1 .walkable
-
   shares-of-requires : lts.Need-shares-of-requires (cs t) (here t) keep.Post Inv μ-loop
-  shares-of-requires c κs = c .keys-of .ensures .1
+  shares-of-requires c κs =
+      let i1 = c .before .before .before .before in
+      let s = i1 .before .before .before .before in
+      omega (arith, s .pre .1 .few (not-false _ (i1 .if1 .left)))
 
   first-of-requires : lts.Need-first-of-requires (cs t) (here t) keep.Post Inv μ-loop
   first-of-requires c κs =
-      let w = c .before .before .before .before .before .before .before .before .before .before .pre .1 .walkable in
+      let w = c .before .before .before .before .before .before .before .before .before .pre .1 .walkable in
       (row-there w, row-few w)
 
   expressions-of-requires : lts.Need-expressions-of-requires (cs t) (here t) keep.Post Inv μ-loop
-  expressions-of-requires c κs = row-there (c .before .before .before .before .before .before .before .before .before .before .before .pre .1 .walkable)
+  expressions-of-requires c κs = row-there (c .before .before .before .before .before .before .before .before .before .before .pre .1 .walkable)
 
   loop-holds : lts.Need-loop-holds (cs t) (here t) keep.Post Inv μ-loop
   loop-holds c =
-      let k = c .before .before .before in
-      let s = k .before .before in
-      let r = s .before in
-      taking-begins (r .kind-of .ensures) (omega (arith, s .if3 .left)) (r .before .if2 .left) (r .before .before .before .before .before .before .pre .1)
-      (not-false _ (r .before .before .if1 .left)) (k .keys-of .ensures .0) (c .before .before .shares-of .ensures) (c .expressions-of .ensures)
-      (c .before .first-of .ensures)
+      let f = c .before in
+      let sh = f .before in
+      let i3 = sh .before .before in
+      let k = i3 .before in
+      let i2 = k .before in
+      let i1 = i2 .before in
+      let s = i1 .before .before .before .before in
+      taking-begins (k .kind-of .ensures) (omega (arith, i3 .if3 .left)) (i2 .if2 .left) (s .pre .1) (not-false _ (i1 .if1 .left))
+      (sh .shares-of .ensures) (c .expressions-of .ensures) (f .first-of .ensures)
 
-  sub-number-at : lts.Need-sub-number-at (cs t) (here t) keep.Post Inv μ-loop
-  sub-number-at c = omega (arith, c .before .before .before .before .before .before .before .before .before .if2 .left)
+  sub-keys-of : lts.Need-sub-keys-of (cs t) (here t) keep.Post Inv μ-loop
+  sub-keys-of c = omega (arith, c .before .before .before .before .before .before .before .before .if2 .left)
 
-  number-at-requires : lts.Need-number-at-requires (cs t) (here t) keep.Post Inv μ-loop
-  number-at-requires c κs = taking-on (c .before .loop .inv) (c .loop-test .taken)
+  keys-of-requires : lts.Need-keys-of-requires (cs t) (here t) keep.Post Inv μ-loop
+  keys-of-requires c κs = taking-on (c .before .loop .inv) (c .loop-test .taken)
+
+  total-of-requires : lts.Need-total-of-requires (cs t) (here t) keep.Post Inv μ-loop
+  total-of-requires c κs = c .keys-of .ensures .1
 
   turn-of-requires : lts.Need-turn-of-requires (cs t) (here t) keep.Post Inv μ-loop
-  turn-of-requires c κs = taking-take (c .before .before .loop .inv) (c .before .loop-test .taken) (c .number-at .ensures)
+  turn-of-requires c κs =
+      let k = c .before in
+      let lt = k .before in
+      let l = lt .before in
+      taking-take (l .loop .inv) (lt .loop-test .taken) (k .keys-of .ensures .0) (c .total-of .ensures)
 
   sub-keep : lts.Need-sub-keep (cs t) (here t) keep.Post Inv μ-loop
   sub-keep c = omega (arith, c .before .before .before .before .before .before .before .before .before .before .before .if2 .left)
 
   keep-requires : lts.Need-keep-requires (cs t) (here t) keep.Post Inv μ-loop
   keep-requires c κs =
-      let b = c .before .before .before in
-      let d = b .before .before .before .before .before .before .before .before .before in
-      let p = d .before .before .before .before .before .pre in (
-        omega (arith, p .0, d .if2 .left),
-        taking-asks (b .before .loop .inv) (b .loop-test .taken) (c .before .before .number-at .ensures) (c .before .turn-of .ensures) (p .1 .room),
+      let tu = c .before in
+      let to = tu .before in
+      let k = to .before in
+      let lt = k .before in
+      let l = lt .before in
+      let i2 = l .before .before .before .before .before .before .before in
+      let s = i2 .before .before .before .before .before in (
+        omega (arith, s .pre .0, i2 .if2 .left),
+        taking-asks (l .loop .inv) (lt .loop-test .taken) (k .keys-of .ensures .0) (to .total-of .ensures) (tu .turn-of .ensures) (s .pre .1 .room),
       )
 
   end-of-requires : lts.Need-end-of-requires (cs t) (here t) keep.Post Inv μ-loop
   end-of-requires c κs =
-      let b = c .before .before .before .before .before .before in
-      row-there (taking-on (b .before .loop .inv) (b .loop-test .taken))
+      let lt = c .before .before .before .before .before .before .before in
+      let l = lt .before in
+      row-there (taking-on (l .loop .inv) (lt .loop-test .taken))
 
-  sub-m : lts.Need-sub-m (cs t) (here t) keep.Post Inv μ-loop
-  sub-m c = omega (arith, c .before .before .before .before .before .before .before .loop-test .taken)
+  sub-to-come : lts.Need-sub-to-come (cs t) (here t) keep.Post Inv μ-loop
+  sub-to-come c = omega (arith, c .before .before .before .before .before .before .before .before .loop-test .taken)
+
+  to-come-requires : lts.Need-to-come-requires (cs t) (here t) keep.Post Inv μ-loop
+  to-come-requires c κs = search needs
 
   loop-less : lts.Need-loop-less (cs t) (here t) keep.Post Inv μ-loop
-  loop-less c = omega (arith, c .before .before .before .before .before .before .before .loop-test .taken)
+  loop-less c =
+      let tu = c .before .before .before .before .before .before in
+      let lt = tu .before .before .before in
+      let l = lt .before in
+      omega (arith, lt .loop-test .taken, c .to-come .ensures, to-come-most (tu .turn-of .result .next) (l .loop .m - 1))
 
   loop-again : lts.Need-loop-again (cs t) (here t) keep.Post Inv μ-loop
   loop-again c =
-      let k = c .before .before .before in
-      let n = k .before .before .before in
-      taking-turns (n .before .before .loop .inv) (n .before .loop-test .taken) (n .number-at .ensures) (k .before .before .turn-of .ensures)
-      (k .keep .kept .1 .1 .1 .1 .1 .1 .1 .0) (k .keep .ensures) refl (c .end-of .ensures)
+      let e = c .before in
+      let k = e .before .before .before in
+      let tu = k .before .before in
+      let to = tu .before in
+      let ke = to .before in
+      let lt = ke .before in
+      let l = lt .before in
+      taking-turns (l .loop .inv) (lt .loop-test .taken) (ke .keys-of .ensures .0) (to .total-of .ensures) (tu .turn-of .ensures)
+      (k .keep .kept .1 .1 .1 .1 .1 .1 .1 .1 .0) (k .keep .ensures) refl (e .end-of .ensures) (c .to-come .ensures)
 
   same-length-2 : lts.Need-same-length-2 (cs t) (here t) keep.Post Inv μ-loop
   same-length-2 c = let a = c .before .before .before .before .before .before .before .args in length-set (a .out .now) (a .at .0) 1
 
   returns-3 : lts.Need-returns-3 (cs t) (here t) keep.Post Inv μ-loop
-  returns-3 c =
-      let r = c .before in
-      set-alone (not-false _ (r .before .before .if1 .left)) (r .before .if2 .left) (r .kind-of .ensures) (c .if3 .taken)
+  returns-3 c = set-alone (not-false _ (c .before .before .before .if1 .left)) (c .before .before .if2 .left) (c .before .kind-of .ensures) (c .if3 .taken)
 
   same-length-3 : lts.Need-same-length-3 (cs t) (here t) keep.Post Inv μ-loop
   same-length-3 c = c .before .loop .inv .same-length
 
   returns-4 : lts.Need-returns-4 (cs t) (here t) keep.Post Inv μ-loop
   returns-4 c =
-      let b = c .before .before in
-      let k = b .before .before .before in
-      let s = k .before .before in
-      let r = s .before in
-      taking-ends (r .kind-of .ensures) (omega (arith, s .if3 .left)) (r .before .if2 .left) (r .before .before .before .before .before .before .pre .1)
-      (not-false _ (r .before .before .if1 .left)) (k .keys-of .ensures .0) (b .before .before .shares-of .ensures) (b .expressions-of .ensures)
-      (b .before .first-of .ensures) (c .before .loop .inv) (c .loop-test .left)
+      let l = c .before in
+      let e = l .before in
+      let f = e .before in
+      let sh = f .before in
+      let i3 = sh .before .before in
+      let k = i3 .before in
+      let i2 = k .before in
+      let i1 = i2 .before in
+      let s = i1 .before .before .before .before in
+      taking-ends (k .kind-of .ensures) (omega (arith, i3 .if3 .left)) (i2 .if2 .left) (s .pre .1) (not-false _ (i1 .if1 .left))
+      (sh .shares-of .ensures) (e .expressions-of .ensures) (f .first-of .ensures) (l .loop .inv) (c .loop-test .left)
 
   returns-5 : lts.Need-returns-5 (cs t) (here t) keep.Post Inv μ-loop
   returns-5 c =
-      let r = c .before .before in
-      absurd (omega (arith, c .if4 .left, r .kind-of .ensures, row-known (r .before .before .before .before .before .before .pre .1 .walkable)))
+      let k = c .before .before in
+      let s = k .before .before .before .before .before .before in
+      absurd (omega (arith, c .if4 .left, k .kind-of .ensures, row-known (s .pre .1 .walkable)))
 
 pub +keep-spec : {M : Type 1} → statement M
 +keep-spec =
@@ -186,18 +219,19 @@ pub +keep-spec : {M : Type 1} → statement M
     (returns-2 t)
     (kind-of-requires t)
     (slice-write-out-2 t)
-    (keys-of-requires t)
     (shares-of-requires t)
     (first-of-requires t)
     (expressions-of-requires t)
     (loop-holds t)
-    (sub-number-at t)
-    (number-at-requires t)
+    (sub-keys-of t)
+    (keys-of-requires t)
+    (total-of-requires t)
     (turn-of-requires t)
     (sub-keep t)
     (keep-requires t)
     (end-of-requires t)
-    (sub-m t)
+    (sub-to-come t)
+    (to-come-requires t)
     (loop-less t)
     (loop-again t)
     (same-length-2 t)

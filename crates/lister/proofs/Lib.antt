@@ -1,0 +1,5 @@
+pub mod BytePairs
+pub mod BytesJudged
+pub mod LinesPut
+pub mod Example
+pub mod InParts

@@ -1,0 +1,154 @@
+-- The lines of a listing: those of some transitions and of the next ones are those of all of them; the kept labels of a transition
+-- are the positions of its bytes; and what is put line by line is what the definitions say.
+use Prim.Native.Nat.{ℕ, zero, suc, _+_, _-_, _*_, _^_, _<_, _≤_}
+use native.Mathlib.Omega.{arith}
+use native.Mathlib.Nat.{zero-add, add-zero, suc-add, add-suc}
+use mathlib.Core.Path.{_≡_, refl, sym, ap, subst, _∙_}
+use mathlib.Core.Bool.{Bool, true, false, cond}
+use mathlib.Core.List.{List, [], _∷_, _++_, map, append-assoc, append-nil}
+use lib.Dec.{eqb}
+use lib.ListN.{length, take, drop}
+use lib.Seq.{length-take-le}
+use Rattle.paper.specs.declared.Label.{Label}
+use Rattle.paper.specs.Lists.{those}
+use Rattle.paper.specs.Formula.{ℓ}
+use Rattle.paper.specs.Transition.{isKept}
+use Rattle.table.specs.declared.Layout.{Layout}
+use Rattle.written.specs.Tables.{formulaIn}
+use Rattle.written.specs.Written.{labelsOn}
+use Rattle.counting.specs.declared.Distinct.{Distinct}
+use Rattle.counting.specs.Marks.{Marked}
+use Rattle.counting.specs.Keys.{keysAt}
+use Rattle.strategy.specs.declared.Accepted.{Accepted}
+use Rattle.strategy.specs.Judge.{proposalIn}
+use Rattle.transitions.specs.Kept.{Keepable, MarkedKept}
+use Rattle.transitions.specs.Assigned.{keptOf, Fillable}
+use Rattle.answers.specs.Requests.{keyOf, marksOf, assignedOf, AcceptedAs}
+use Rattle.answers.proofs.Accepted.{is-understood, few-transitions}
+use Rattle.answers.proofs.Keeping.{rows-lent, chosen-lent, rows-fit, keepable, bytes-left, front-is, front-there, front-length, fillable, assigned-there, assigned-front, amounts}
+use Rattle.listing.specs.Text.{positionsFrom, positions, transitionLine}
+use Rattle.listing.specs.Placed.{Put}
+use Rattle.listing.proofs.Placing.{put-nothing, put-then}
+use Rattle.lister.specs.Listing.{keptLabels, lineOf, linesFrom}
+use Rattle.lister.specs.Steps.{Listable, LinesPut}
+
+-- the bytes of labels that pass a test, and their positions
+module _ (p : Label → Bool) where
+  position-of : (t : Bool) (i : ℕ) (ks : List ℕ) (xs : List Label) → ks ≡ map (λ x. x .0) xs
+      → cond (eqb (cond t 1 0) 1) (i ∷ ks) ks ≡ map (λ x. x .0) (cond t (ℓ i ∷ xs) xs)
+  position-of true i ks xs e = ap (λ (r : List ℕ). i ∷ r) e
+  position-of false i ks xs e = e
+
+  positions-of : (i n : ℕ) → positionsFrom i (map (λ x. cond (p x) 1 0) (labelsOn i n)) ≡ map (λ x. x .0) (those p (labelsOn i n))
+  unfolding positionsFrom
+  positions-of i zero = refl
+  positions-of i (suc n) = position-of (p (ℓ i)) i _ (those p (labelsOn (suc i) n)) (positions-of (suc i) n)
+
+module _ (words : List ℕ) (l : Layout) where
+  -- m lines and n more are m + n lines
+  pub lines-split : (m n k : ℕ) → linesFrom words l k (m + n) ≡ linesFrom words l k m ++ linesFrom words l (k + m) n
+  unfolding linesFrom
+  lines-split zero n k = rw (zero-add, add-zero)
+  lines-split (suc m) n k = rw (suc-add, add-suc, ← suc-add k m, append-assoc) (ap (λ (r : List ℕ). lineOf words l k ++ r) (lines-split m n (suc k)))
+
+  lines-next : (k next : ℕ) → k ≤ next → linesFrom words l k (next + 1 - k) ≡ linesFrom words l k (next - k) ++ lineOf words l next
+  unfolding linesFrom
+  lines-next k next h =
+      let more : next + 1 - k ≡ next - k + 1 = omega arith in
+      let there : k + (next - k) ≡ next = omega arith in
+      rw more (lines-split (next - k) 1 k ∙ rw (there, append-nil))
+
+  -- lines put one after another, from transition k on
+  pub record Putting (k count : ℕ) (lent text : List ℕ) (next at : ℕ) : Type 0 where
+    pub so-far : k ≤ next
+    pub within : next ≤ count
+    pub put : Put lent 0 (linesFrom words l k (next - k)) text at
+
+  pub putting-begins : (k count : ℕ) (lent : List ℕ) → k < count → Putting k count lent lent k 0
+  unfolding linesFrom
+  putting-begins k count lent h =
+      let none : k - k ≡ 0 = omega arith in
+      record { so-far = omega arith; within = omega arith; put = rw none (put-nothing lent 0 (omega arith)) }
+
+  pub putting-goes-on : {k count : ℕ} {lent text text′ : List ℕ} {next at at′ : ℕ} → Putting k count lent text next at → next < count
+      → Put text at (lineOf words l next) text′ at′ → Putting k count lent text′ (next + 1) at′
+  putting-goes-on {k} {next = next} p h q = record {
+    so-far = let s = p .so-far in omega arith;
+    within = omega arith;
+    put = rw (lines-next k next (p .so-far)) (put-then (p .put) q);
+  }
+
+  -- nothing is put before the first line
+  pub putting-some : {k count : ℕ} {lent text : List ℕ} {next at : ℕ} → Putting k count lent text next at → 0 < at → k < next
+  unfolding linesFrom
+  putting-some {k} {next = next} p h = some (next - k) refl
+    where
+      some : (m : ℕ) → next - k ≡ m → k < next
+      some zero e = let none = rw e at (p .put .next) in absurd (omega arith)
+      some (suc m) e = omega arith
+
+-- lines that are put stand in front
+pub putting-stops : (words : List ℕ) (a : Accepted) {k : ℕ} {lent text : List ℕ} {next at : ℕ}
+    → Putting words (a .layout) k (a .transitions) lent text next at → k < next → LinesPut words a k lent text (record { next = next; at = at })
+putting-stops words a p some = record { some = some; within = p .within; put = p .put }
+
+-- The line of transition k, from what the walk and the choice leave.
+module _ {words : List ℕ} {a : Accepted} {marks : List ℕ} {own : Distinct} {order : List ℕ} (p : Listable words a marks own order) {k : ℕ}
+    (h : k < a .transitions) where
+  abbrev l : Layout
+  l = a .layout
+
+  abbrev e : AcceptedAs words a
+  e = p .ordered .accepted
+
+  abbrev lentRows : List ℕ
+  lentRows = take (length words - l .«rows_at») (drop (l .«rows_at») words)
+
+  marked-lent : Marked (map ℓ (take (length words - l .«chosen_at») (drop (l .«chosen_at») words))) marks
+  marked-lent = rw (chosen-lent words a e) (p .marked)
+
+  pub walk-asks : {kept : List ℕ} → length kept ≡ 4096 → Keepable lentRows marks kept (l .rows) 0 64 own k true
+  walk-asks room = keepable words a e k h marked-lent (rw (rows-lent words a e) (p .own-are)) room
+
+  -- once the walk is done
+  module _ {lent kept : List ℕ} (m : MarkedKept lentRows marks (l .rows) k lent kept) where
+    stands : kept ≡ marksOf words l k ++ drop (length (marksOf words l k)) lent
+    stands = bytes-left words a e k h marked-lent m
+
+    pub rows-there : l .rows ≤ length kept
+    rows-there = front-there words a e k h lent kept stands .0
+
+    pub rows-long : l .rows ≡ length (take (l .rows) kept)
+    rows-long = front-length words a e k h lent kept stands
+
+    pub choice-asks : {labels : List ℕ} → length labels ≡ 2048 → Fillable order (l .chosen) (take (l .rows) kept) labels
+    choice-asks {labels} room = fillable words a e k h lent kept stands order (p .ordered) labels room
+
+    -- once the chosen labels are put
+    module _ (labels labels′ : List ℕ) (filled : ℕ) (n : filled ≡ length (keptOf (take (l .rows) kept) (take (l .chosen) order)))
+        (after : labels′ ≡ keptOf (take (l .rows) kept) (take (l .chosen) order) ++ drop filled labels) where
+      pub labels-there : filled ≤ length labels′
+      labels-there = assigned-there words a e k h lent kept stands order (p .ordered) labels labels′ filled n after .0
+
+      pub labels-long : filled ≡ length (take filled labels′)
+      labels-long = sym (length-take-le filled labels′ labels-there)
+
+      assigned : take filled labels′ ≡ assignedOf words l k
+      assigned = assigned-front words a e k h lent kept stands order (p .ordered) labels labels′ filled n after
+
+      pub line-fits : (at room : ℕ) → at + (23 + 6 * l .variables + 6 * l .rows) ≤ room
+          → (k < 2 ^ 32) × (length (take (l .rows) kept) ≤ 65536) × (at + (23 + 6 * length (take filled labels′) + 6 * length (take (l .rows) kept)) ≤ room)
+      line-fits at room fits =
+          let few = few-transitions words a e in
+          let v = ap length assigned ∙ amounts words a e .assignments-are k h in
+          let n = rows-long in
+          let most = rows-fit words a e in
+          (omega arith, omega arith, omega arith)
+
+      pub line-put : {text text′ : List ℕ} {at after : ℕ} → Put text at (transitionLine k (take filled labels′) (positions (take (l .rows) kept))) text′ after
+          → Put text at (lineOf words l k) text′ after
+      unfolding lineOf positions
+      line-put q =
+          let u = is-understood words a e in
+          let kept-are = positions-of (isKept (formulaIn words l) (proposalIn words l) (keyOf words l k)) 0 (l .rows) in
+          rw (← assigned, u .labels-are, ← kept-are) (rw (front-is words a e k h lent kept stands, u .labels-are) at q)

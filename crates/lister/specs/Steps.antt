@@ -1,0 +1,67 @@
+-- What the lister's functions ask for and leave: the words of the bytes, the judgement, and the parts of the listing.
+use Prim.Native.Nat.{ℕ, _+_, _-_, _*_, _/_, _<_, _≤_}
+use mathlib.Core.List.{List}
+use mathlib.Core.Path.{_≡_}
+use lib.ListN.{length, take}
+use Rattle.table.specs.declared.Layout.{Layout}
+use Rattle.table.specs.Sections.{rowsIn}
+use Rattle.counting.specs.declared.Distinct.{Distinct}
+use Rattle.counting.specs.Marks.{Marked}
+use Rattle.counting.specs.Keys.{keysAt}
+use Rattle.strategy.specs.declared.Accepted.{Accepted}
+use Rattle.strategy.specs.declared.Judged.{Judged}
+use Rattle.strategy.specs.declared.Judged.the-variants as judged
+use Rattle.strategy.specs.Judge.{proposalIn}
+use Rattle.answers.specs.Requests.{copied, Ordered}
+use Rattle.listing.specs.Placed.{Put}
+use Rattle.lister.specs.declared.lines.Part.{Part}
+use Rattle.lister.specs.Listing.{wordsOf, judgedBytes, linesFrom}
+
+-- the words of the bytes stand in front of what was there, and how many they are
+pub record WordsIn (bytes lent left : List ℕ) (count : ℕ) : Type 0 where
+  pub many : count ≡ length (wordsOf bytes)
+  pub half : count ≡ length bytes / 2
+  pub stand : left ≡ copied (wordsOf bytes) count lent
+
+-- the words of accepted bytes, and their reported order, each in front
+pub record Ready (bytes words order : List ℕ) (a : Accepted) : Type 0 where
+  pub words-stand : take (length bytes / 2) words ≡ wordsOf bytes
+  pub ordered : Ordered (wordsOf bytes) a order
+  pub order-long : length order ≡ 2048
+
+-- the answer to the bytes, and what is ready where they are accepted
+pub record JudgedBytes (bytes words order : List ℕ) (r : Judged) : Type 0 where
+  pub answered : r ≡ judgedBytes bytes
+  pub ready : (a : Accepted) → r ≡ judged.Accepted a → Ready bytes words order a
+
+-- the words of bytes that are accepted so, with their reported order in front
+pub record Accepts (bytes words : List ℕ) (a : Accepted) (order : List ℕ) : Type 0 where
+  pub judged-so : judgedBytes bytes ≡ judged.Accepted a
+  pub words-are : words ≡ wordsOf bytes
+  pub ordered : Ordered words a order
+
+-- counts that fit, an order of so many labels, and room for two lines
+pub record Headed (a : Accepted) (order text : List ℕ) : Type 0 where
+  pub variables-fit : a .layout .variables ≤ 1024
+  pub rows-fit : a .layout .rows ≤ 4096
+  pub chosen-fit : a .layout .chosen ≤ 2048
+  pub transitions-fit : a .transitions ≤ 65535
+  pub order-there : a .layout .chosen ≤ length order
+  pub room : length text ≡ 65536
+
+-- accepted words, with what the line of every transition is worked out from: the marks of the chosen labels, the keys of the
+-- formula and the reported order
+pub record Listable (words : List ℕ) (a : Accepted) (marks : List ℕ) (own : Distinct) (order : List ℕ) : Type 0 where
+  pub ordered : Ordered words a order
+  pub marked : Marked (proposalIn words (a .layout)) marks
+  pub own-are : own ≡ keysAt (rowsIn words (a .layout)) marks 64 0
+
+-- no transition's line is longer
+abbrev pub longest : Layout → ℕ
+longest l = 23 + 6 * l .variables + 6 * l .rows
+
+-- the lines of the transitions from k on, at least one, stand in front of what was there
+pub record LinesPut (words : List ℕ) (a : Accepted) (k : ℕ) (lent left : List ℕ) (part : Part) : Type 0 where
+  pub some : k < part .next
+  pub within : part .next ≤ a .transitions
+  pub put : Put lent 0 (linesFrom words (a .layout) k (part .next - k)) left (part .at)

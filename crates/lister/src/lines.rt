@@ -1,0 +1,84 @@
+// The lines of a listing, put into a lent buffer: the first two of an accepted table, and those of its transitions, as many at a
+// time as surely fit.
+ghost use mathlib.Core.Path.{_≡_};
+ghost use Prim.Native.Nat.{_+_, _<_, _≤_};
+ghost use lib.ListN.{length, take};
+ghost use Rattle.listing.specs.Placed.{Put};
+ghost use Rattle.lister.specs.Listing.{headOf, lineOf};
+ghost use Rattle.lister.specs.Steps.{Headed, Listable, longest, LinesPut};
+use counting::Distinct;
+use listing::put_accepted;
+use listing::put_order;
+use listing::put_transition;
+use strategy::Accepted;
+use transitions::assigned::fill_assigned;
+use transitions::kept::mark_kept;
+
+// The number of the next transition, and the place behind the lines that were put.
+pub struct Part {
+    pub next: usize,
+    pub at: usize,
+}
+
+// The counts, and the order, which stands in front of `order`.
+pub fn put_head(a: Accepted, order: &[u16], text: &mut [u8]) -> usize
+    requires { ⌜ Headed a (now order) (now text) ⌝ }
+    ensures { λ r. ⌜ Put (now (text .entry)) 0 (headOf a (take (a .layout .chosen) (now (order .entry)))) (now (text .exit)) r ⌝ }
+{
+    let l = a.layout;
+    let chosen = l.chosen;
+    let next = put_accepted(text, 0, l.variables, l.rows, chosen, a.transitions);
+    put_order(text, next, &order[..chosen])
+}
+
+// The line of transition k of an accepted table: `marks` are those of its chosen labels, and `own` the keys of its formula.
+fn put_line(
+    words: &[u16],
+    a: Accepted,
+    marks: &[u8; 4096],
+    own: Distinct,
+    order: &[u16],
+    k: usize,
+    text: &mut [u8],
+    at: usize,
+) -> usize
+    requires { ⌜ Listable (now words) a (now marks) own (now order) × (k < a .transitions) × (at + longest (a .layout) ≤ length (now text)) ⌝ }
+    ensures { λ r. ⌜ Put (now (text .entry)) at (lineOf (now (words .entry)) (a .layout) k) (now (text .exit)) r ⌝ }
+{
+    let l = a.layout;
+    let rows = l.rows_at;
+    let n = l.rows;
+    let mut kept = [0u8; 4096];
+    mark_kept(&words[rows..], marks, n as u16, own, k as u64, &mut kept);
+    let mut labels = [0u16; 2048];
+    let filled = fill_assigned(order, l.chosen, &kept[..n], &mut labels);
+    put_transition(text, at, k, &labels[..filled], &kept[..n])
+}
+
+// The lines of the transitions from k on, until there might be no room for one more.
+pub fn put_lines(
+    words: &[u16],
+    a: Accepted,
+    marks: &[u8; 4096],
+    own: Distinct,
+    order: &[u16],
+    k: usize,
+    text: &mut [u8],
+) -> Part
+    requires { ⌜ Listable (now words) a (now marks) own (now order) × (k < a .transitions) × (longest (a .layout) ≤ length (now text)) ⌝ }
+    ensures { λ r. ⌜ LinesPut (now (words .entry)) a k (now (text .entry)) (now (text .exit)) r ⌝ }
+{
+    let l = a.layout;
+    let count = a.transitions;
+    let most = 23 + 6 * l.variables + 6 * l.rows;
+    let mut next = k;
+    let mut at = 0;
+    while next < count {
+        if text.len() - at < most {
+            return Part { next, at };
+        }
+        at = put_line(words, a, marks, own, order, next, text, at);
+        next += 1;
+    }
+    Part { next, at }
+}
