@@ -12,7 +12,7 @@ use Rattle.paper.specs.Lists.{those}
 use Rattle.paper.specs.Formula.{ℓ, has, Formula}
 use Rattle.paper.specs.Before.{before}
 use Rattle.paper.specs.Order.{OrderOf}
-use Rattle.paper.specs.Transition.{key, keys, isKept}
+use Rattle.paper.specs.Transition.{keys, isKept}
 use Rattle.paper.specs.Structure.Kept.{keptAt}
 use Rattle.paper.proofs.Bools.{same-answer}
 use Rattle.paper.proofs.Lists.{those-le}
@@ -24,7 +24,6 @@ use Rattle.paper.proofs.Order.{reported-is-order}
 use Rattle.table.specs.declared.Layout.{Layout}
 use Rattle.written.specs.Tables.{Understood, formulaIn}
 use Rattle.table.specs.Sections.{rowsIn, readsIn, chosenIn}
-use Rattle.rows.specs.Formula.{formulaAt}
 use Rattle.rows.proofs.Rules.{rest}
 use Rattle.written.proofs.Words.{map-back, word-mem}
 use Rattle.rows.specs.Walk.{Walkable}
@@ -34,7 +33,7 @@ use Rattle.counting.specs.Keys.{keysAt}
 use Rattle.strategy.specs.declared.Accepted.{Accepted}
 use Rattle.strategy.specs.Judge.{proposalIn}
 use Rattle.strategy.proofs.Held.{parts-of, Reached, reached, walkable}
-use Rattle.transitions.specs.Kept.{Keepable, MarkedKept, bytesOf}
+use Rattle.transitions.specs.Kept.{Keepable, MarkedKept}
 use Rattle.transitions.specs.Assigned.{isKeptIn, keptOf, Fillable}
 use Rattle.transitions.specs.Statements.{kthBytes, TransitionSays}
 use Rattle.transitions.proofs.MarkedBytes.{length-bytes}

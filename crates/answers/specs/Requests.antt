@@ -1,14 +1,14 @@
 -- The four requests of document 01 ("Requests and what they give"): the answer to any words, and every lent word or byte
 -- afterwards.
 use Prim.Native.Nat.{ℕ, _≤_, _<_}
-use mathlib.Core.Bool.{Bool, cond}
+use mathlib.Core.Bool.{cond}
 use mathlib.Core.List.{List, [], _++_, map}
 use mathlib.Core.Path.{_≡_}
 use lib.Dec.{eqb, ltb, leb}
 use lib.ListN.{length, getD, take, drop}
 use Rattle.paper.specs.declared.Label.{Label}
 use Rattle.paper.specs.Lists.{those}
-use Rattle.paper.specs.Formula.{has, Formula, labels}
+use Rattle.paper.specs.Formula.{has, labels}
 use Rattle.paper.specs.Before.{before}
 use Rattle.paper.specs.Order.{order}
 use Rattle.paper.specs.Transition.{keys, isKept}

@@ -1,6 +1,5 @@
 // Transition k and its assignments, for a caller that has judged the words. 15, then 18, then 16; nothing is written before all
 // are passed.
-ghost use mathlib.Core.Path.{_≡_};
 ghost use lib.ListN.{length};
 ghost use Rattle.answers.specs.Requests.{transitionOutcome, assignmentsOutcome, Fills, AcceptedAs, Ordered, Asked, Kept};
 use crate::Filled;

@@ -8,7 +8,7 @@ use Rattle.table.specs.Sections.{openAt, variablesAt, readsAt, rowsAt, strategy
 use Rattle.rows.specs.Formula.{starAt, childrenAt, nodeAt, formulaAt}
 use Rattle.strategy.specs.Judge.{judgedOf}
 use Rattle.answers.specs.Requests.{judgeOf, outcomeOf, ofTransition}
-use Rattle.demands.specs.Cases.{Case, listing, starred}
+use Rattle.demands.specs.Cases.{listing, starred}
 
 pub starred-cases : map (λ c. listing (c .words)) starred ≡ map (λ c. c .expected) starred
 unfolding first formOf meets ascend takenBefore falseRule starRule candidateRule joinRule boundRule endsWithin keepsRules roundOf openAt variablesAt readsAt rowsAt strategyAt endAt sections checked starAt childrenAt nodeAt formulaAt judgedOf judgeOf outcomeOf ofTransition

@@ -3,9 +3,9 @@
 use Prim.Native.Nat.{ℕ, zero, suc, _+_, _-_, _*_, _^_, _<_, _≤_}
 use native.Mathlib.Omega.{arith}
 use native.Mathlib.Nat.{zero-add, add-zero, suc-add, add-suc}
-use mathlib.Core.Path.{_≡_, refl, sym, ap, subst, _∙_}
+use mathlib.Core.Path.{_≡_, refl, sym, ap, _∙_}
 use mathlib.Core.Bool.{Bool, true, false, cond}
-use mathlib.Core.List.{List, [], _∷_, _++_, map, append-assoc, append-nil}
+use mathlib.Core.List.{List, _∷_, _++_, map, append-assoc, append-nil}
 use lib.Dec.{eqb}
 use lib.ListN.{length, take, drop}
 use lib.Seq.{length-take-le}
@@ -18,7 +18,6 @@ use Rattle.written.specs.Tables.{formulaIn}
 use Rattle.written.specs.Written.{labelsOn}
 use Rattle.counting.specs.declared.Distinct.{Distinct}
 use Rattle.counting.specs.Marks.{Marked}
-use Rattle.counting.specs.Keys.{keysAt}
 use Rattle.strategy.specs.declared.Accepted.{Accepted}
 use Rattle.strategy.specs.Judge.{proposalIn}
 use Rattle.transitions.specs.Kept.{Keepable, MarkedKept}
@@ -29,7 +28,7 @@ use Rattle.answers.proofs.Keeping.{rows-lent, chosen-lent, rows-fit, keepable, 
 use Rattle.listing.specs.Text.{positionsFrom, positions, transitionLine}
 use Rattle.listing.specs.Placed.{Put}
 use Rattle.listing.proofs.Placing.{put-nothing, put-then}
-use Rattle.lister.specs.Listing.{keptLabels, lineOf, linesFrom}
+use Rattle.lister.specs.Listing.{lineOf, linesFrom}
 use Rattle.lister.specs.Steps.{Listable, LinesPut}
 
 -- the bytes of labels that pass a test, and their positions

@@ -1,6 +1,5 @@
 // The lines of a listing, put into a lent buffer: the first two of an accepted table, and those of its transitions, as many at a
 // time as surely fit.
-ghost use mathlib.Core.Path.{_≡_};
 ghost use Prim.Native.Nat.{_+_, _<_, _≤_};
 ghost use lib.ListN.{length, take};
 ghost use Rattle.listing.specs.Placed.{Put};

@@ -4,7 +4,6 @@ mod lines; // the lines of the transitions, put into a lent buffer
 mod parts; // the parts of a listing, written out one after another
 mod words; // the words of bytes
 
-ghost use mathlib.Core.Path.{_≡_};
 ghost use Prim.Native.Nat.{_≤_};
 ghost use lib.ListN.{length};
 use judging::judge_bytes;

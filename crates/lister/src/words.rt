@@ -2,7 +2,6 @@
 ghost use mathlib.Core.Path.{_≡_};
 ghost use Prim.Native.Nat.{_+_, _*_, _/_, _≤_};
 ghost use lib.ListN.{length};
-ghost use Rattle.lister.specs.Listing.{wordsOf};
 ghost use Rattle.lister.specs.Steps.{WordsIn};
 
 // The word of two bytes.

@@ -9,7 +9,7 @@ use lib.ListN.{length, getD}
 use lib.Dec.{eqb, ltb}
 use borrow.Author.Tests.{eqb-true, eqb-false, ltb-true}
 use Rattle.paper.proofs.Bools.{and-left, and-right, pick}
-use Rattle.rows.specs.Rows.{kindOf, argOf, endOf, formOf, guarded, starRule, candidateRule, boundRule, keepsForm, endsWithin, keepsRules}
+use Rattle.rows.specs.Rows.{kindOf, argOf, endOf, formOf, guarded, starRule, candidateRule, boundRule, keepsForm, keepsRules}
 use Rattle.rows.proofs.Meets.{child, no-child, lt-or-le}
 use Rattle.rows.proofs.Nested.{nested}
 use Rattle.rows.proofs.Rules.{kept, no-form, root-ends}

@@ -1,5 +1,5 @@
 -- C can take every packed answer apart again: each part has its own bits.
-use Prim.Native.Nat.{ℕ, _<_, _^_}
+use Prim.Native.Nat.{_<_, _^_}
 use native.Mathlib.Omega.{arith}
 use Rattle.table.specs.declared.Refusal.{Refusal}
 use Rattle.answers.specs.declared.Counts.{Counts}

@@ -1,5 +1,5 @@
 -- For each public function, any two outcomes that its promise allows are equal: the answer, and every lent word.
-use Prim.Native.Nat.{ℕ, _<_, _≤_}
+use Prim.Native.Nat.{ℕ, _≤_}
 use native.Mathlib.Omega.{arith}
 use mathlib.Core.Path.{_≡_}
 use mathlib.Core.List.{List}

@@ -1,5 +1,5 @@
 -- The distinct keys: exactly those given, each once, strictly ascending (specs/Statements.antt, 5).
-use Prim.Native.Nat.{ℕ, _<_}
+use Prim.Native.Nat.{_<_}
 use native.Mathlib.Omega.{arith}
 use mathlib.Core.Path.{_≡_, refl, sym, subst, _∙_}
 use mathlib.Core.Bool.{Bool, true, false, cond, _&&_, _||_, true≢false, false≢true}
@@ -9,9 +9,9 @@ use lib.Dec.{ltb}
 use borrow.Author.Tests.{eqb-true, eq-eqb, ltb-true, ltb-false, lt-ltb}
 use Rattle.paper.specs.Formula.{Label, same, Formula}
 use Rattle.paper.specs.Branch.{branches}
-use Rattle.paper.specs.Transition.{key, sameKey, isLower, withKey, distinct, keys}
+use Rattle.paper.specs.Transition.{key, sameKey, isLower, withKey, distinct}
 use Rattle.paper.specs.Statements.{Ascending, KeysAreListed}
-use Rattle.paper.proofs.Bools.{or-left, or-right, or-cases, both, and-left, and-right, pick}
+use Rattle.paper.proofs.Bools.{or-left, or-right, or-cases, both, and-left, and-right}
 use Rattle.paper.proofs.Lists.{of-map}
 use Rattle.paper.proofs.Labels.{same-refl, same-eq}
 

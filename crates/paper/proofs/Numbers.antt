@@ -16,7 +16,7 @@ use Rattle.paper.specs.Formula.{Label, same, has, labels, labelsOf, Risi
 use Rattle.paper.specs.Branch.{branches, ofEach, ofAny}
 use Rattle.paper.specs.Strategy.{Homogeneous, MinimalCovering}
 use Rattle.paper.specs.Transition.{key, keys, isLower, isKept}
-use Rattle.paper.specs.Structure.Reading.{Reading, readOf, readAll}
+use Rattle.paper.specs.Structure.Reading.{readAll}
 use Rattle.paper.specs.Structure.KeyCount.{KeyCount, keyCount, number, leafKeys, unitKeys, joinKeys, keyReading, keyCountOf, numberOf, numberOfEach}
 use Rattle.paper.specs.Structure.Kept.{keptAt, keptEach, keptAny, keptAll}
 use Rattle.paper.specs.Statements.{NumbersSay}
@@ -24,7 +24,7 @@ use Rattle.paper.proofs.Bools.{pick}
 use Rattle.paper.proofs.Lists.{any-append, to-pairs}
 use Rattle.paper.proofs.Labels.{rising-ext, rising-split, branch-sub, any-sub}
 use Rattle.paper.proofs.Distinct.{sameKey-refl, isLower-irreflexive}
-use Rattle.paper.proofs.Readings.{joinedFromRight, from-the-unit, from-the-right}
+use Rattle.paper.proofs.Readings.{joinedFromRight, from-the-unit}
 use Rattle.paper.proofs.Keys.{of-key, to-key, keptIn, to-kept, of-kept, key-rises, key-length}
 use Rattle.paper.proofs.KeyLists.{getD-mem, length-pairs, at-pairs, keysOf, Level, key-append, of-keysOf, keys-of-pairs, keys-of-append, keys-of-keyless, lower-key, kept-append, kept-none, kept-pairs}
 

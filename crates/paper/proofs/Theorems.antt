@@ -1,10 +1,9 @@
 -- The theorems of document 001, each statement of specs/Statements.antt under the premises that it needs. The proofs stand in
 -- the files named here; `WellFormed #V f` is what a table's rows give (labels ascend in preorder, variables lie below #V).
 use Prim.Native.Nat.{ℕ}
-use mathlib.Core.Bool.{Bool, true}
-use mathlib.Core.Path.{_≡_, refl}
+use mathlib.Core.Path.{refl}
 use mathlib.Core.List.{List, [], _∷_}
-use Rattle.paper.specs.Formula.{Label, has, Formula, WellFormed}
+use Rattle.paper.specs.Formula.{Label, Formula, WellFormed}
 use Rattle.paper.specs.Before.{before}
 use Rattle.paper.specs.Order.{Acyclic}
 use Rattle.paper.specs.Strategy.{Homogeneous, MinimalCovering, Strategy}

@@ -1,8 +1,8 @@
 -- The Boolean structure of a formula (document 001, Table 2), and the paper's own definition of a branch:
 -- a set of labels that induces a minimal model of boolForm.
-use mathlib.Core.Bool.{Bool, true, false, _&&_, _||_}
+use mathlib.Core.Bool.{Bool, true, _&&_, _||_}
 use mathlib.Core.Path.{_≡_}
-use Rattle.paper.specs.Formula.{Label, Star, Formula, Formulas, FALSE, test, candidate, conjunction, disjunction, exists, IF, only, _⨾_}
+use Rattle.paper.specs.Formula.{Label, Formula, Formulas, FALSE, test, candidate, conjunction, disjunction, exists, IF, only, _⨾_}
 
 -- the set S induces a model of boolForm(f)
 abbrev mutual

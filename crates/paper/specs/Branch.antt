@@ -2,7 +2,7 @@
 -- Stars inside candidates, and stars that guard an exists or an IF, are in no branch.
 use mathlib.Core.List.{List, [], _∷_, _++_}
 use Rattle.paper.specs.Lists.{pairs}
-use Rattle.paper.specs.Formula.{Label, Star, Formula, Formulas, FALSE, test, candidate, conjunction, disjunction, exists, IF, only, _⨾_}
+use Rattle.paper.specs.Formula.{Label, Formula, Formulas, FALSE, test, candidate, conjunction, disjunction, exists, IF, only, _⨾_}
 
 abbrev mutual
   pub branches : Formula → List (List Label)

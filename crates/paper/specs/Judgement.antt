@@ -1,7 +1,7 @@
 -- The judgement of a formula with #V variables and a proposed strategy A, whose labels ascend
 -- (document 01, refusals 10 to 14, in the order of checks).
 use Prim.Native.Nat.{ℕ, zero, suc}
-use mathlib.Core.Bool.{Bool, cond, not}
+use mathlib.Core.Bool.{cond, not}
 use mathlib.Core.List.{List, [], _∷_, _++_, map}
 use lib.Dec.{eqb, ltb}
 use lib.ListN.{length}

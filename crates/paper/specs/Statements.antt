@@ -2,23 +2,23 @@
 -- The numbers are those of docs/PROMISES.md. Most ask for a formula as a table gives it (`WellFormed`); the labels of a
 -- proposal A ascend in a table, and where that matters the statement says so.
 use Prim.Native.Nat.{ℕ, _<_, _≤_}
-use mathlib.Core.Bool.{Bool, true, false, not, _||_}
+use mathlib.Core.Bool.{Bool, true, false, _||_}
 use mathlib.Core.Path.{_≡_}
-use mathlib.Core.Logic.{_⊎_, _↔_}
+use mathlib.Core.Logic.{_↔_}
 use mathlib.Core.List.{List, [], _∷_, List·Memᴰ}
 use lib.ListN.{length, getD}
 use Rattle.paper.specs.Lists.{anyOf, those}
 use Rattle.paper.specs.Formula.{Label, Variable, ℓ, has, Formula, labels, Rising, WellFormed}
 use Rattle.paper.specs.Branch.{branches}
-use Rattle.paper.specs.BoolForm.{MinimalModel, Part}
+use Rattle.paper.specs.BoolForm.{MinimalModel}
 use Rattle.paper.specs.Frozen.{frozen, Constrained}
 use Rattle.paper.specs.Before.{before, shareBranch}
 use Rattle.paper.specs.Order.{Acyclic, order, Chain, onCycle, OrderOf}
-use Rattle.paper.specs.Strategy.{Homogeneous, MinimalCovering, Strategy}
-use Rattle.paper.specs.Transition.{sliceBy, key, isLower, class, isKept, keys, transition, transitions}
+use Rattle.paper.specs.Strategy.{Strategy}
+use Rattle.paper.specs.Transition.{sliceBy, key, isLower, class, isKept, keys, transitions}
 use Rattle.paper.specs.Meaning.{Meaning, True}
 use Rattle.paper.specs.Carry.{Carried, unset}
-use Rattle.paper.specs.Judgement.{Judgement, accepted, refused, missed, doubled, variables, judge}
+use Rattle.paper.specs.Judgement.{accepted, refused, missed, doubled, judge}
 use Rattle.paper.specs.Structure.Cover.{coverOf}
 use Rattle.paper.specs.Structure.KeyCount.{numberOf}
 use Rattle.paper.specs.Structure.Kept.{keptAt}

@@ -1,10 +1,9 @@
 -- Slices, keys, classes and transitions (document 001, Table 4 and Definition 5; document 01, "Key" and "Numbering").
-use Prim.Native.Nat.{ℕ}
 use mathlib.Core.Bool.{Bool, true, false, cond, _&&_, _||_}
 use mathlib.Core.List.{List, [], _∷_, map}
 use lib.Dec.{ltb}
 use Rattle.paper.specs.Lists.{anyOf, those}
-use Rattle.paper.specs.Formula.{Label, same, has, labels, Star, Formula, Formulas, FALSE, test, candidate, conjunction, disjunction, exists, IF, only, _⨾_}
+use Rattle.paper.specs.Formula.{Label, same, has, labels, Formula, Formulas, FALSE, test, candidate, conjunction, disjunction, exists, IF, only, _⨾_}
 use Rattle.paper.specs.Branch.{branches}
 
 -- Table 4: the formula sliced by a set of labels; each test or candidate that is not in it becomes FALSE

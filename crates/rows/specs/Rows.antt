@@ -1,6 +1,6 @@
 -- The rows of a table, four words each from the first row's kind word on, and the rules of one row
 -- (document 01, the table of kinds and the paragraph after it; refusals 6, 7 and 8).
-use Prim.Native.Nat.{ℕ, zero, suc, _+_, _-_, _*_, _<_, _≤_}
+use Prim.Native.Nat.{ℕ, zero, suc, _+_, _*_, _<_, _≤_}
 use mathlib.Core.Bool.{Bool, false, cond, not, _&&_}
 use mathlib.Core.List.{List}
 use lib.ListN.{length, getD, drop}

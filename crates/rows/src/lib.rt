@@ -2,7 +2,7 @@
 // are handed on from the first row's kind word; what follows the last row may be anything.
 ghost use mathlib.Core.Path.{_≡_};
 ghost use Prim.Native.Nat.{_+_, _*_, _≤_, _<_};
-ghost use lib.ListN.{length, drop};
+ghost use lib.ListN.{length};
 ghost use Rattle.paper.specs.Formula.{ℓ};
 ghost use Rattle.entries.specs.First.{first};
 ghost use Rattle.rows.specs.Rows.{kindOf, argOf, endOf, fromOf, formOf, meets, takes, takenBefore, guarded, falseRule, starRule, candidateRule, joinRule, boundRule, endsWithin, keepsRules, breaksRules, InRows};

@@ -5,7 +5,6 @@ use native.Mathlib.Omega.{arith}
 use mathlib.Core.Path.{_≡_, refl, sym, ap, subst, _∙_}
 use mathlib.Core.List.{List}
 use lib.ListN.{length}
-use Rattle.paper.specs.Formula.{labels}
 use Rattle.paper.specs.Transition.{keys}
 use Rattle.paper.specs.Judgement.{Judgement, accepted, judge}
 use Rattle.paper.proofs.Judgement as Paper

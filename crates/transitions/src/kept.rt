@@ -5,7 +5,6 @@ ghost use mathlib.Core.Bool.{true};
 ghost use mathlib.Core.List.{_++_};
 ghost use Prim.Native.Nat.{_≤_, _<_};
 ghost use lib.ListN.{length, drop, replicate};
-ghost use Rattle.rows.specs.Walk.{Walkable};
 ghost use Rattle.transitions.specs.Kept.{CanTake, turnOf, sharesOf, toCome, Keepable, KeptAfter, MarkedKept};
 use crate::Shares;
 use crate::Turn;

@@ -1,10 +1,10 @@
 -- The labels that transition i keeps, worked out over the structure: quotient and remainder at a conjunction, whose
 -- first child is the most significant; offset at a disjunction; every child where the only key is empty.
 use Prim.Native.Nat.{ℕ, _-_, _/_, _%_}
-use mathlib.Core.Bool.{Bool, true, false, cond, _||_}
+use mathlib.Core.Bool.{cond}
 use mathlib.Core.List.{List, [], _∷_, _++_}
 use lib.Dec.{eqb, ltb}
-use Rattle.paper.specs.Formula.{Label, Star, Formula, Formulas, FALSE, test, candidate, conjunction, disjunction, exists, IF, only, _⨾_}
+use Rattle.paper.specs.Formula.{Label, Formula, Formulas, FALSE, test, candidate, conjunction, disjunction, exists, IF, only, _⨾_}
 use Rattle.paper.specs.Structure.KeyCount.{keyCountOf, numberOf, numberOfEach}
 
 -- of a child that stands beside others: what its first key keeps, or nothing where it has no key

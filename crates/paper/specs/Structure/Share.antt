@@ -1,9 +1,9 @@
 -- Whether some branch holds given labels, worked out over the structure: they part among the children of a conjunction
 -- and meet in one child of any other join.
-use mathlib.Core.Bool.{Bool, true, false, _&&_, _||_}
+use mathlib.Core.Bool.{Bool, _&&_, _||_}
 use mathlib.Core.List.{List, [], _∷_, _++_, map}
 use Rattle.paper.specs.Lists.{anyOf, allOf}
-use Rattle.paper.specs.Formula.{Label, has, Star, Formula, Formulas, FALSE, test, candidate, conjunction, disjunction, exists, IF, only, _⨾_}
+use Rattle.paper.specs.Formula.{Label, has, Formula, Formulas, FALSE, test, candidate, conjunction, disjunction, exists, IF, only, _⨾_}
 
 -- a way to part a list in two
 pub record Parts : Type 0 where

@@ -1,6 +1,5 @@
 -- The checks in their order, and then the bytes that `keep` left are copied.
 use native.Mathlib.Omega.{arith}
-use mathlib.Core.Path.{sym}
 use borrow.Author.Needs.{needs}
 use Rattle.answers.proofs.Accepted.{few-transitions}
 use Rattle.answers.proofs.Keeping.{front-is, front-there}

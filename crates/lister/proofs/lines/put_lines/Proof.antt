@@ -1,7 +1,6 @@
 -- `put_lines` puts line after line: the invariant is that those of the transitions passed stand in front. One line at least fits.
 use Prim.Native.Nat.{_-_}
 use native.Mathlib.Omega.{arith}
-use mathlib.Core.Path.{refl}
 use borrow.Author.Needs.{needs}
 use Rattle.answers.proofs.Accepted.{is-understood}
 use Rattle.listing.proofs.Placing.{put-length}
