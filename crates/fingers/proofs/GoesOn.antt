@@ -9,7 +9,7 @@ use mathlib.Core.List.{List}
 use lib.Dec.{eqb, ltb, leb}
 use lib.ListN.{length, getD, take, drop}
 use lib.Seq.{drop-cons}
-use borrow.Author.Tests.{eq-eqb, ne-eqb, eqb-true, lt-ltb, ltb-true, le-leb, leb-true}
+use borrow.Author.Tests.{eq-eqb, ne-eqb, eqb-true, lt-ltb, le-ltb, ltb-true, le-leb, leb-true}
 use Rattle.paper.specs.Lists.{anyOf}
 use Rattle.paper.proofs.Bools.{both, and-left, and-right, or-left, or-right, or-cases, same-answer, pick}
 use Rattle.entries.specs.First.{first}
@@ -18,7 +18,7 @@ use Rattle.entries.proofs.First.{first-le, first-at, first-below}
 use Rattle.net.specs.Prior.{starReads, guardOf}
 use Rattle.net.specs.Net.{firstWith, guardsFrom, nextsFrom, firstsFrom}
 use Rattle.fingers.specs.Ready.{Ready}
-use Rattle.fingers.specs.Places.{stopOf, readsAny, around, packed, varOf, pending, ahead, Place, After}
+use Rattle.fingers.specs.Places.{stopOf, readsAny, around, packed, varOf, pending, ahead, placeAfter, Place, After}
 use Rattle.fingers.proofs.Tests.{by-eq, by-lt, never}
 use Rattle.fingers.proofs.Guards.{Innermost, no-guard, the-guard}
 
@@ -103,11 +103,11 @@ module _ (rows reads chosen : List ℕ) where
   unfolding pending
   some-star s r k i e = by-eq s 0 (λ q. never _ (and-left (not (eqb s 0)) _ e) (ap not (eq-eqb s 0 q))) (λ q. omega arith)
 
-  ahead-is : (s r k : ℕ) → 0 < s → ahead rows chosen s r k ≡ packed s (stopOf rows s - r) (length chosen - k)
+  pub ahead-is : (s r k : ℕ) → 0 < s → ahead rows chosen s r k ≡ packed s (stopOf rows s - r) (length chosen - k)
   unfolding ahead
   ahead-is s r k h = rw (ne-eqb s 0 (λ e. omega arith))
 
-  ahead-none : (r k : ℕ) → ahead rows chosen 0 r k ≡ 0
+  pub ahead-none : (r k : ℕ) → ahead rows chosen 0 r k ≡ 0
   unfolding ahead
   ahead-none r k = refl
 
@@ -132,11 +132,13 @@ module _ (rows reads chosen : List ℕ) where
 
     -- k < length chosen: the next number of its variable
     pub after-number : k < length chosen → After rows reads chosen #N s r k s r (getD net (nextsFrom + k) 0)
+    unfolding placeAfter
     after-number l = rw (ready .netted .nexts k l) (record {
       place = record { star = P .star; kind = P .kind; read = P .read; number = next-in .1 };
       old = λ i e. joins s r k i h (old i (parts s r next i e));
       less = let z = next-in in omega (arith, ahead-is s r k h, ahead-is s r next h);
       only = λ i hi e f. (l, by-eq i k (λ q. q) (λ d. never _ (joins s r next i h (new i hi d (parts s r k i e))) f));
+      exactly = rw (lt-ltb k (length chosen) l);
     })
       where
         next : ℕ
@@ -163,6 +165,7 @@ module _ (rows reads chosen : List ℕ) where
 
     -- all numbers of a read are passed: the next read, and the first number of its variable
     pub after-read : length chosen ≤ k → r < stopOf rows s → After rows reads chosen #N s r k s (r + 1) (getD net (firstsFrom + getD reads r 0) 0)
+    unfolding placeAfter
     after-read l m = rw (ready .netted .firsts v (ready .variables r (let z = stop-in in omega arith))) (record {
       place = record {
         star = P .star;
@@ -173,6 +176,7 @@ module _ (rows reads chosen : List ℕ) where
       old = λ i e. joins s r k i h (old i (parts s (r + 1) start i e));
       less = omega (arith, ahead-is s r k h, ahead-is s (r + 1) start h, ready .choice .few);
       only = λ i hi e f. never _ (joins s (r + 1) start i h (new i hi (parts s r k i e))) f;
+      exactly = rw (le-ltb k (length chosen) l, lt-ltb r (stopOf rows s) m);
     })
       where
         v : ℕ
@@ -204,6 +208,10 @@ module _ (rows reads chosen : List ℕ) where
         new i hi (readAround a) = readAround a
 
     -- all reads of a star are passed: the star around it
+    past-star : length chosen ≤ k → stopOf rows s ≤ r → (guardOf rows s, fromOf rows (guardOf rows s), length chosen) ≡ placeAfter rows reads chosen s r k
+    unfolding placeAfter
+    past-star l m = rw (le-ltb k (length chosen) l, le-ltb r (stopOf rows s) m)
+
     pub after-star : length chosen ≤ k → stopOf rows s ≤ r
         → After rows reads chosen #N s r k (getD net (guardsFrom + s) 0) (fromOf rows (getD net (guardsFrom + s) 0)) (length chosen)
     after-star l m = rw (ready .netted .guards .guards s (P .star)) (by-lt 0 (guardOf rows s) some-guard no-more)
@@ -222,6 +230,7 @@ module _ (rows reads chosen : List ℕ) where
           old = λ i q. absurd (let z = some-star 0 (fromOf rows 0) (length chosen) i q in omega arith);
           less = omega (arith, ahead-is s r k h, ahead-none (fromOf rows 0) (length chosen));
           only = λ i hi q f. never _ (from-here i q) (no-guard rows reads #N (ready .choice .tree) s (varOf rows chosen i) e);
+          exactly = rw e at (past-star l m);
         })
 
         some-guard : 0 < guardOf rows s → After rows reads chosen #N s r k (guardOf rows s) (fromOf rows (guardOf rows s)) (length chosen)
@@ -237,6 +246,7 @@ module _ (rows reads chosen : List ℕ) where
               let z = stop in
               omega (arith, w .below, ready .few, ahead-is s r k h, ahead-is (guardOf rows s) (fromOf rows (guardOf rows s)) (length chosen) o);
           only = λ i hi e f. never _ (opened (guardOf rows s) i o ∙ sym (w .outward (varOf rows chosen i)) ∙ from-here i e) f;
+          exactly = past-star l m;
         }
           where
             w : Innermost rows reads #N (ready .choice .tree) s (guardOf rows s)

@@ -2,5 +2,7 @@ pub mod Tests
 pub mod Kept
 pub mod Guards
 pub mod GoesOn
+pub mod Finding
 pub mod Seeking
 pub mod Looking
+pub mod OneOutcome

@@ -6,16 +6,18 @@ use mathlib.Core.Bool.{Bool, true, false, _&&_, not}
 use mathlib.Core.List.{List}
 use lib.Dec.{eqb, ltb}
 use lib.ListN.{length, getD, set, length-set}
+use lib.Seq.{getD-set-other}
 use borrow.Author.Tests.{ne-eqb, lt-ltb, le-ltb, ltb-true, not-true, not-false}
 use Rattle.paper.proofs.Bools.{both, and-left, and-right, not-so}
 use Rattle.rows.specs.Rows.{kindOf, fromOf}
 use Rattle.net.specs.Prior.{isFrozen, prior}
 use Rattle.fingers.specs.Ready.{Ready}
 use Rattle.fingers.specs.Graph.{Graph, Next, free, outside, slots, Started}
-use Rattle.fingers.specs.Places.{packed, varOf, calls, startOf, AtStart, pending, After, PlaceOf, Sought, passedOf, fingerOf, graphOf}
+use Rattle.fingers.specs.Places.{packed, varOf, calls, startOf, AtStart, pending, soughtFrom, After, PlaceOf, Sought, passedOf, fingerOf, graphOf, Answered}
 use Rattle.fingers.proofs.Tests.{by, by-eq, never, at-set}
 use Rattle.fingers.proofs.Guards.{frozen-is}
 use Rattle.fingers.proofs.GoesOn.{chained, joins, some-star, opened}
+use Rattle.fingers.proofs.Finding.{found-none, found-here, found-later}
 
 -- outside an empty path is what is new
 pub outside-free : (mark : List ℕ) (i : ℕ) → outside mark 0 i ≡ free mark i
@@ -42,7 +44,7 @@ module _ (rows reads chosen : List ℕ) (#N : ℕ) where
   -- the search moves on, past a number that does not call
   module _ (o : ℕ → Bool) (j s₀ r₀ k₀ : ℕ) where
     pub sought-none : PlaceOf rows reads chosen #N j s₀ r₀ k₀ → Sought rows reads chosen #N o j s₀ r₀ k₀ s₀ r₀ k₀
-    sought-none P = record { at = P; none = λ i hi e f. never _ e f }
+    sought-none P = record { at = P; none = λ i hi e f. never _ e f; onto = refl }
 
     not-prior : (k : ℕ) → k < length chosen → calls rows chosen o k j ≡ false → o k ≡ true → prior rows reads chosen k j ≡ false
     unfolding calls prior
@@ -50,14 +52,16 @@ module _ (rows reads chosen : List ℕ) (#N : ℕ) where
         not-so _ (λ p. never _ (both (ltb k (length chosen)) _ (lt-ltb k (length chosen) h)
         (both (o k) _ q (and-right (isFrozen rows reads (getD chosen j 0) (varOf rows chosen k)) _ p))) e)
 
-    pub sought-more : (s r k s′ r′ k′ : ℕ) → Sought rows reads chosen #N o j s₀ r₀ k₀ s r k → calls rows chosen o k j ≡ false
-        → After rows reads chosen #N s r k s′ r′ k′ → Sought rows reads chosen #N o j s₀ r₀ k₀ s′ r′ k′
-    sought-more s r k s′ r′ k′ x e a = record {
+    pub sought-more : (net : List ℕ) → Ready rows reads chosen net #N → (s r k s′ r′ k′ : ℕ) → 0 < s
+        → Sought rows reads chosen #N o j s₀ r₀ k₀ s r k → calls rows chosen o k j ≡ false → After rows reads chosen #N s r k s′ r′ k′
+        → Sought rows reads chosen #N o j s₀ r₀ k₀ s′ r′ k′
+    sought-more net ready s r k s′ r′ k′ h x e a = record {
       at = record { place = a .place; frozen = λ i q. x .at .frozen i (a .old i q) };
       none = λ i hi b f q. by (pending rows reads chosen s r k i)
           (λ c. let z = a .only i hi c f in
           subst (λ y. prior rows reads chosen y j ≡ false) (sym (z .1)) (not-prior k (z .0) e (subst (λ y. o y ≡ true) (z .1) q)))
           (λ c. x .none i hi b c q);
+      onto = x .onto ∙ found-later rows reads chosen o j net #N ready s r k s′ r′ k′ h e a;
     }
 
   -- the search ends
@@ -80,10 +84,10 @@ module _ (rows reads chosen : List ℕ) (#N : ℕ) where
         same : (i : ℕ) → pending rows reads chosen s r k i ≡ pending rows reads chosen (f / 4294967296) (f / 65536 % 65536) (f % 65536) i
         same i = rw (a, b, c)
 
-    pub sought-hit : (s r k : ℕ) → length chosen < slots → 0 < s → SoughtTo s r k → calls rows chosen o k j ≡ true
+    next-hit : (s r k : ℕ) → length chosen < slots → 0 < s → SoughtTo s r k → calls rows chosen o k j ≡ true
         → Next (graphOf rows reads chosen #N) o j p (packed s r k) k
     unfolding calls prior
-    sought-hit s r k small h x e =
+    next-hit s r k small h x e =
         let l = ltb-true k (length chosen) (and-left (ltb k (length chosen)) _ e) in
         let q = and-right (ltb k (length chosen)) _ e in
         let u = unpacked s r k (let z = x .at .place .read h in omega arith) (omega arith) in
@@ -95,8 +99,8 @@ module _ (rows reads chosen : List ℕ) (#N : ℕ) where
         ))
         (λ g. absurd (omega arith))
 
-    pub sought-out : (s r k : ℕ) → s ≡ 0 → SoughtTo s r k → Next (graphOf rows reads chosen #N) o j p 0 (length chosen)
-    sought-out s r k e x = finds 0 0 0 0 refl refl refl (length chosen) (omega arith) ended (λ g. absurd (omega arith)) (λ _. gone 0 0 0 refl)
+    next-out : (s r k : ℕ) → s ≡ 0 → SoughtTo s r k → Next (graphOf rows reads chosen #N) o j p 0 (length chosen)
+    next-out s r k e x = finds 0 0 0 0 refl refl refl (length chosen) (omega arith) ended (λ g. absurd (omega arith)) (λ _. gone 0 0 0 refl)
       where
         gone : (s r k : ℕ) → s ≡ 0 → (i : ℕ) → pending rows reads chosen s r k i ≡ false
         gone s r k z i = not-so _ (λ q. let y = some-star rows reads chosen s r k i q in omega arith)
@@ -113,7 +117,21 @@ module _ (rows reads chosen : List ℕ) (#N : ℕ) where
             frozen = λ i q. never _ q (gone 0 0 0 refl i);
           };
           none = λ i hi b c q. x .none i hi b (gone s r k e i) q;
+          onto = x .onto ∙ found-none rows reads chosen o j s r k e ∙ sym (found-none rows reads chosen o j 0 0 0 refl);
         }
+
+    pub sought-hit : (s r k : ℕ) → length chosen < slots → 0 < s → SoughtTo s r k → calls rows chosen o k j ≡ true
+        → Answered rows reads chosen #N o j p (record { finger = packed s r k; number = k })
+    sought-hit s r k small h x e = record {
+      next = next-hit s r k small h x e;
+      exactly = sym (x .onto ∙ found-here rows reads chosen o j s r k h e);
+    }
+
+    pub sought-out : (s r k : ℕ) → s ≡ 0 → SoughtTo s r k → Answered rows reads chosen #N o j p (record { finger = 0; number = length chosen })
+    sought-out s r k e x = record {
+      next = next-out s r k e x;
+      exactly = sym (x .onto ∙ found-none rows reads chosen o j s r k e);
+    }
 
   -- the finger before all that the own star of j reads
   module _ (net : List ℕ) (ready : Ready rows reads chosen net #N) (j : ℕ) (hj : j < length chosen) where
@@ -157,17 +175,18 @@ module _ (rows reads chosen : List ℕ) (#N : ℕ) where
         let none : pending rows reads chosen own (fromOf rows own) (length chosen) i ≡ false = rw (s .0, s .1, s .2) at gone in
         not-so _ (λ p. never _ (and-left (isFrozen rows reads (getD chosen j 0) (varOf rows chosen i)) _ p) (sym (all-frozen i) ∙ none))
 
-  pub started : (net finger : List ℕ) → Ready rows reads chosen net #N → AtStart rows chosen (length chosen) finger
+  pub started : (net old finger : List ℕ) → Ready rows reads chosen net #N → AtStart rows chosen (length chosen) old finger
       → Started (graphOf rows reads chosen #N) finger
-  started net finger ready a = record {
+  started net old finger ready a = record {
     size = a .size;
     within = λ j h. subst (fingerOf rows reads chosen #N j) (sym (a .starts j h)) (start-place net ready j h);
     clear = λ j h i hi e. start-clear net ready j h i (subst (λ z. passedOf rows reads chosen #N j z i ≡ true) (a .starts j h) e);
   }
 
-pub start-more : (rows chosen finger : List ℕ) (k f : ℕ) → k < slots → f ≡ startOf rows chosen k → AtStart rows chosen k finger
-    → AtStart rows chosen (k + 1) (set finger k f)
-start-more rows chosen finger k f h e a = record {
+pub start-more : (rows chosen old finger : List ℕ) (k f : ℕ) → k < slots → f ≡ startOf rows chosen k → AtStart rows chosen k old finger
+    → AtStart rows chosen (k + 1) old (set finger k f)
+start-more rows chosen old finger k f h e a = record {
   size = length-set finger k f ∙ a .size;
   starts = λ j hj. at-set finger k f (omega (arith, a .size)) (λ z. z ≡ startOf rows chosen j) j (λ q. rw (q, e)) (λ q. a .starts j (omega arith));
+  others = λ j hj. getD-set-other finger k j f 0 (λ q. omega arith) ∙ a .others j (omega arith);
 }

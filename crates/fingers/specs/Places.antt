@@ -1,7 +1,7 @@
 -- Fingers into what a label's stars read. A place is a star (0 for none), the next of its reads, and the next chosen number
 -- of the variable of the read before. From it on come that number and those after it of its variable, those of the reads
 -- that are left, and those that the guards around the star read.
-use Prim.Native.Nat.{ℕ, _+_, _*_, _-_, _/_, _%_, _<_, _≤_}
+use Prim.Native.Nat.{ℕ, zero, suc, _+_, _*_, _-_, _/_, _%_, _<_, _≤_}
 use mathlib.Core.Bool.{Bool, true, false, cond, _&&_, _||_, not}
 use mathlib.Core.Path.{_≡_}
 use mathlib.Core.List.{List}
@@ -9,8 +9,10 @@ use lib.Dec.{eqb, ltb, leb}
 use lib.ListN.{length, getD, take, drop}
 use Rattle.paper.specs.Lists.{anyOf}
 use Rattle.rows.specs.Rows.{kindOf, argOf, fromOf}
-use Rattle.net.specs.Prior.{upTo, isGuarded, starReads, isFrozen, together, prior}
-use Rattle.fingers.specs.Graph.{Graph}
+use Rattle.net.specs.Prior.{upTo, isGuarded, guardOf, starReads, isFrozen, together, prior}
+use Rattle.net.specs.Net.{firstWith}
+use Rattle.fingers.specs.declared.Found.{Found}
+use Rattle.fingers.specs.Graph.{Graph, Next}
 
 -- one past the last read of the star in row s
 abbrev pub stopOf : List ℕ → ℕ → ℕ
@@ -59,10 +61,11 @@ pub record Seekable (g : Graph) (b j f : ℕ) : Type 0 where
 unfoldable pub startOf : List ℕ → List ℕ → ℕ → ℕ
 startOf rows chosen j = packed (getD chosen j 0 + 1) (fromOf rows (getD chosen j 0 + 1)) (length chosen)
 
--- the fingers of the numbers below m are there
-pub record AtStart (rows chosen : List ℕ) (m : ℕ) (finger : List ℕ) : Type 0 where
+-- the fingers of the numbers below m are there, and the words from m on are as they were
+pub record AtStart (rows chosen : List ℕ) (m : ℕ) (old finger : List ℕ) : Type 0 where
   pub size : length finger ≡ 2048
   pub starts : (j : ℕ) → j < m → getD finger j 0 ≡ startOf rows chosen j
+  pub others : (j : ℕ) → m ≤ j → getD finger j 0 ≡ getD old j 0
 
 -- (s, r, k) is a place
 pub record Place (rows chosen : List ℕ) (#N s r k : ℕ) : Type 0 where
@@ -79,6 +82,29 @@ module _ (rows reads chosen : List ℕ) where
       && (ltb k (length chosen) && (eqb (varOf rows chosen k) (varOf rows chosen i) && leb k i)
       || (readsAny reads r (stopOf rows s) (varOf rows chosen i) || around rows reads s (varOf rows chosen i)))
 
+  -- The place after (s, r, k), which has a star: the next number of the variable; past the last, the first number of the next
+  -- read; past the last read, the star of the guard around, before all that it reads.
+  unfoldable pub placeAfter : ℕ → ℕ → ℕ → ℕ × ℕ × ℕ
+  placeAfter s r k =
+      cond (ltb k (length chosen)) (s, r, firstWith rows chosen (varOf rows chosen k) (k + 1))
+      (cond (ltb r (stopOf rows s)) (s, r + 1, firstWith rows chosen (getD reads r 0) 0) (guardOf rows s, fromOf rows (guardOf rows s), length chosen))
+
+  -- What a search answers at (s, r, k), by whether there is no star and whether the number calls: finger 0 and how many numbers
+  -- there are; the place as a finger and its number; else what it answers from the place after.
+  abbrev pub answerAt : Bool → Bool → (ℕ × ℕ × ℕ → Found) → ℕ → ℕ → ℕ → Found
+  answerAt true calling later s r k = record { finger = 0; number = length chosen }
+  answerAt false true later s r k = record { finger = packed s r k; number = k }
+  answerAt false false later s r k = later (placeAfter s r k)
+
+  -- what a search for j answers within so many places
+  unfoldable pub soughtWithin : (ℕ → Bool) → ℕ → ℕ → ℕ × ℕ × ℕ → Found
+  soughtWithin isOpen j zero p = record { finger = 0; number = length chosen }
+  soughtWithin isOpen j (suc most) (s, r, k) = answerAt (eqb s 0) (calls rows chosen isOpen k j) (soughtWithin isOpen j most) s r k
+
+  -- what it answers from (s, r, k) on: more places than `ahead` give the same (`enough` in proofs/Finding.antt)
+  unfoldable pub soughtFrom : (ℕ → Bool) → ℕ → ℕ → ℕ → ℕ → Found
+  soughtFrom isOpen j s r k = soughtWithin isOpen j (ahead rows chosen s r k) (s, r, k)
+
   module _ (#N : ℕ) where
     -- (s′, r′, k′) is the place after (s, r, k): the same lies from both on, but for k
     pub record After (s r k s′ r′ k′ : ℕ) : Type 0 where
@@ -86,16 +112,19 @@ module _ (rows reads chosen : List ℕ) where
       pub less : ahead rows chosen s′ r′ k′ < ahead rows chosen s r k
       pub old : (i : ℕ) → pending s′ r′ k′ i ≡ true → pending s r k i ≡ true
       pub only : (i : ℕ) → i < length chosen → pending s r k i ≡ true → pending s′ r′ k′ i ≡ false → (k < length chosen) × (i ≡ k)
+      pub exactly : (s′, r′, k′) ≡ placeAfter s r k
 
     -- (s, r, k) is a place of j: what lies from it on is frozen at j
     pub record PlaceOf (j s r k : ℕ) : Type 0 where
       pub place : Place rows chosen #N s r k
       pub frozen : (i : ℕ) → pending s r k i ≡ true → isFrozen rows reads (getD chosen j 0) (varOf rows chosen i) ≡ true
 
-    -- what a search for j from (s₀, r₀, k₀) has shown at (s, r, k): whatever was passed and is open is not before j
+    -- what a search for j from (s₀, r₀, k₀) has shown at (s, r, k): whatever was passed and is open is not before j, and the
+    -- answer from the one is the answer from the other
     pub record Sought (isOpen : ℕ → Bool) (j s₀ r₀ k₀ s r k : ℕ) : Type 0 where
       pub at : PlaceOf j s r k
       pub none : (i : ℕ) → i < length chosen → pending s₀ r₀ k₀ i ≡ true → pending s r k i ≡ false → isOpen i ≡ true → prior rows reads chosen i j ≡ false
+      pub onto : soughtFrom isOpen j s₀ r₀ k₀ ≡ soughtFrom isOpen j s r k
 
     -- fingers are places as numbers
     unfoldable pub passedOf : ℕ → ℕ → ℕ → Bool
@@ -106,3 +135,8 @@ module _ (rows reads chosen : List ℕ) where
 
     abbrev pub graphOf : Graph
     graphOf = record { size = length chosen; before = prior rows reads chosen; passed = passedOf; Finger = fingerOf }
+
+    -- what a search for j from finger p answers: a next finger, exactly the one that following the places gives
+    pub record Answered (isOpen : ℕ → Bool) (j p : ℕ) (r : Found) : Type 0 where
+      pub next : Next graphOf isOpen j p (r .finger) (r .number)
+      pub exactly : r ≡ soughtFrom isOpen j (p / 4294967296) (p / 65536 % 65536) (p % 65536)

@@ -7,8 +7,8 @@ ghost use lib.ListN.{length, getD};
 ghost use Rattle.net.specs.Prior.{together};
 ghost use Rattle.net.specs.Net.{Chosen, Net};
 ghost use Rattle.fingers.specs.Ready.{Ready};
-ghost use Rattle.fingers.specs.Graph.{Next, outside};
-ghost use Rattle.fingers.specs.Places.{stopOf, packed, calls, AtStart, Apart, Looked, Seekable, Place, After, graphOf};
+ghost use Rattle.fingers.specs.Graph.{outside};
+ghost use Rattle.fingers.specs.Places.{stopOf, packed, calls, AtStart, Apart, Looked, Seekable, Place, After, Answered, graphOf};
 use entries::wide;
 use net::clear_of;
 use net::first_of;
@@ -176,7 +176,8 @@ fn spot_of(f: u64) -> Spot
     }
 }
 
-// The finger of j moved on from `finger` to a number that is before j and is new or on the path below position b.
+// The finger of j moved on from `finger` to the first place whose number is before j and is new or on the path below
+// position b, or to 0.
 pub fn seek(
     rows: &[u16],
     reads: &[u16],
@@ -189,8 +190,7 @@ pub fn seek(
     finger: u64,
 ) -> Found
     requires { ⌜ Ready (now rows) (now reads) (now chosen) (now net) n × Seekable (graphOf (now rows) (now reads) (now chosen) n) b j finger ⌝ }
-    ensures { λ r. ⌜ Next (graphOf (now (rows .entry)) (now (reads .entry)) (now (chosen .entry)) n) (outside (now (mark .entry)) b) j finger
-        (r .finger) (r .number) ⌝ }
+    ensures { λ r. ⌜ Answered (now (rows .entry)) (now (reads .entry)) (now (chosen .entry)) n (outside (now (mark .entry)) b) j finger r ⌝ }
 {
     let mut p = spot_of(finger);
     let mut seen = Seen {
@@ -214,10 +214,10 @@ pub fn seek(
     }
 }
 
-// Puts every finger before all that its number's own star reads.
+// Puts every finger before all that its number's own star reads; words beyond them stay.
 pub fn start(rows: &[u16], chosen: &[u16], n: u16, finger: &mut [u64; 2048])
     requires { ⌜ Chosen (now rows) (now chosen) n × (length (now finger) ≡ 2048) ⌝ }
-    ensures { λ _. ⌜ AtStart (now (rows .entry)) (now (chosen .entry)) (length (now (chosen .entry))) (now (finger .exit)) ⌝ }
+    ensures { λ _. ⌜ AtStart (now (rows .entry)) (now (chosen .entry)) (length (now (chosen .entry))) (now (finger .entry)) (now (finger .exit)) ⌝ }
 {
     let mut j = 0;
     while j < chosen.len() {

@@ -1,5 +1,5 @@
--- The loop's invariant: what was passed from the finger on and is open is not before j. The measure is how far the place is from
--- the end.
+-- The loop's invariant: what was passed from the finger on and is open is not before j, and what is found from the finger on is found
+-- from the place on. The measure is how far the place is from the end.
 use Prim.Native.Nat.{_/_, _%_}
 use native.Mathlib.Omega.{arith}
 use mathlib.Core.Path.{sym, _∙_}
@@ -67,9 +67,11 @@ loop-less c = search needs
 loop-again : tie.Need-loop-again Inv-loop μ-loop
 loop-again c =
     let look = c .before .before .look in
+    let if1 = c .before .before .before .if1 in
     let loop = c .before .before .before .before .before .loop in
+    let R = c .before .before .before .before .before .before .before .before .before .before .pre .0 in
     let w = look .ensures in
-    (sought-more _ _ _ _ _ _ _ _ _ _ _ _ _ _ _ (loop .inv .0) (sym (w .says) ∙ c .before .if2 .left) (c .onward .ensures), w .apart)
+    (sought-more _ _ _ _ _ _ _ _ _ _ R _ _ _ _ _ _ (if1 .taken) (loop .inv .0) (sym (w .says) ∙ c .before .if2 .left) (c .onward .ensures), w .apart)
 
 returns-2 : tie.Need-returns-2 Inv-loop μ-loop
 returns-2 c = sought-out _ _ _ _ _ _ _ _ _ _ (omega (arith, c .if1 .left)) (c .before .before .loop .inv .0)

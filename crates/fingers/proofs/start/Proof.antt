@@ -1,7 +1,7 @@
--- The loop's invariant: the fingers of the numbers below j are at their starts.
+-- The loop's invariant: the fingers of the numbers below j are at their starts, and the words from j on are as they were.
 use Prim.Native.Nat.{_-_, _≤_}
 use native.Mathlib.Omega.{arith}
-use mathlib.Core.Path.{_∙_}
+use mathlib.Core.Path.{refl, _∙_}
 use lib.ListN.{length}
 use Rattle.fingers.specs.Places.{startOf, AtStart}
 use Rattle.fingers.proofs.Seeking.{start-more}
@@ -10,13 +10,13 @@ use Rattle.fingers.proofs.start.Statement.{statement}
 use Rattle.fingers.proofs.start.Tie as tie
 
 abbrev Inv-loop : tie.InvT-loop
-Inv-loop rows chosen n finger₀ j₀ finger j = (j ≤ length chosen) × AtStart rows chosen j finger
+Inv-loop rows chosen n finger₀ j₀ finger j = (j ≤ length chosen) × AtStart rows chosen j finger₀ finger
 
 abbrev μ-loop : tie.MeasureT-loop
 μ-loop rows chosen n finger₀ j₀ finger j = length chosen - j
 
 loop-holds : tie.Need-loop-holds Inv-loop μ-loop
-loop-holds c = (omega arith, record { size = c .before .before .pre .1; starts = λ i h. absurd (omega arith) })
+loop-holds c = (omega arith, record { size = c .before .before .pre .1; starts = λ i h. absurd (omega arith); others = λ i h. refl })
 
 mul-wide : tie.Need-mul-wide Inv-loop μ-loop
 mul-wide c = search needs
@@ -62,12 +62,16 @@ loop-again c =
     let l = loop-test .taken in
     let e = c .before .wide .ensures ∙ from-of .ensures in
     let m = rw e at (c .pack .ensures) in
-    (omega arith, start-more _ _ _ _ _ (omega (arith, entry .pre .0 .few)) m (loop .inv .1))
+    (omega arith, start-more _ _ _ _ _ _ (omega (arith, entry .pre .0 .few)) m (loop .inv .1))
 
 returns : tie.Need-returns Inv-loop μ-loop
 returns c =
     let v = c .before .loop .inv in
-    record { size = v .1 .size; starts = λ j h. v .1 .starts j (omega (arith, c .loop-test .left)) }
+    record {
+      size = v .1 .size;
+      starts = λ j h. v .1 .starts j (omega (arith, c .loop-test .left));
+      others = λ j h. v .1 .others j (omega (arith, v .0));
+    }
 
 pub start-spec : {M : Type 1} → statement M
 start-spec =

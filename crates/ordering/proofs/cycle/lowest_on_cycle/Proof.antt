@@ -38,7 +38,7 @@ loop-holds c =
     let R = entry .pre in
     let s = R .choice .few in (
       omega arith,
-      empty-first _ _ (omega arith) (started _ _ _ _ _ _ R (c .before .start .ensures)),
+      empty-first _ _ (omega arith) (started _ _ _ _ _ _ _ R (c .before .start .ensures)),
       best-start _ _ (omega arith) (c .first-self .ensures),
       λ i h. absurd (omega arith),
     )

@@ -126,7 +126,7 @@ returns-2 c =
     let a = c .before .before .before .before .before .before .before .before .before .before .pre in
     let h = a .2 .some (a .1) in
     let u = ahead-of _ _ _ _ _ _ _ _ (a .2) h (c .before .before .before .before .before .if1 .left) in
-    step-back _ _ _ _ _ _ _ _ (a .2) h _ (a .3) u _ _ (c .before .seek .ensures) (c .if2 .taken)
+    step-back _ _ _ _ _ _ _ _ (a .2) h _ (a .3) u _ _ (c .before .seek .ensures .next) (c .if2 .taken)
 
 mul-if3 : tie.Need-mul-if3
 mul-if3 c = search needs
@@ -178,7 +178,7 @@ returns-3 c =
     let a = c .before .before .before .before .before .before .before .before .before .before .before .before .pre in
     let h = a .2 .some (a .1) in
     let u = ahead-of _ _ _ _ _ _ _ _ (a .2) h (c .before .before .before .before .before .before .before .if1 .left) in
-    step-push _ _ _ _ _ _ _ _ (a .2) h _ (a .3) u _ _ (c .before .before .before .seek .ensures) (c .before .before .if2 .left) (c .if3 .taken)
+    step-push _ _ _ _ _ _ _ _ (a .2) h _ (a .3) u _ _ (c .before .before .before .seek .ensures .next) (c .before .before .if2 .left) (c .if3 .taken)
 
 mul-merged : tie.Need-mul-merged
 mul-merged c = search needs
@@ -190,7 +190,7 @@ cast-merged : tie.Need-cast-merged
 cast-merged c =
     let a = c .before .before .before .before .before .before .before .before .before .before .before .before .before .before .pre in
     let h = a .2 .some (a .1) in
-    let hit = c .before .before .before .before .before .seek .ensures .hit (c .before .before .before .before .if2 .left) .0 in
+    let hit = c .before .before .before .before .before .seek .ensures .next .hit (c .before .before .before .before .if2 .left) .0 in
     let b = bound-in _ _ _ _ _ _ _ _ (a .2) h in
     omega (arith, outside-yes _ _ _ hit .1, b .0, b .1, a .0 .choice .few)
 
@@ -198,7 +198,7 @@ sub-merged : tie.Need-sub-merged
 sub-merged c =
     let a = c .before .before .before .before .before .before .before .before .before .before .before .before .before .before .pre in
     let h = a .2 .some (a .1) in
-    let hit = c .before .before .before .before .before .seek .ensures .hit (c .before .before .before .before .if2 .left) .0 in
+    let hit = c .before .before .before .before .before .seek .ensures .next .hit (c .before .before .before .before .if2 .left) .0 in
     two-or-more _ _ _ _ _ _ _ _ (a .2) h _ hit (c .before .before .if3 .left)
 
 merged-requires : tie.Need-merged-requires
@@ -218,7 +218,7 @@ returns-4 c =
     let a = entry .pre in
     let h = a .2 .some (a .1) in
     let u = ahead-of _ _ _ _ _ _ _ _ (a .2) h (if1 .left) in
-    step-merge _ _ _ _ _ _ _ _ (a .2) h _ (a .3) u _ _ (seek .ensures) (if2 .left) (if3 .left) _ (c .merged .ensures)
+    step-merge _ _ _ _ _ _ _ _ (a .2) h _ (a .3) u _ _ (seek .ensures .next) (if2 .left) (if3 .left) _ (c .merged .ensures)
 
 pub step-spec : {M : Type 1} → statement M
 step-spec =

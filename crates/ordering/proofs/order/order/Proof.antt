@@ -26,7 +26,7 @@ start-requires c κs = (c .before .before .before .before .pre .0 .choice, refl)
 lowest-ready-requires : tie.Need-lowest-ready-requires Inv-loop μ-loop
 lowest-ready-requires c κs =
     let R = c .before .before .before .before .before .before .before .before .before .pre .0 in
-    (R, omega arith, state-first _ _ (omega (arith, R .choice .few)) (started _ _ _ _ _ _ R (c .before .before .before .before .start .ensures)))
+    (R, omega arith, state-first _ _ (omega (arith, R .choice .few)) (started _ _ _ _ _ _ _ R (c .before .before .before .before .start .ensures)))
 
 loop-holds : tie.Need-loop-holds Inv-loop μ-loop
 loop-holds c =

@@ -73,7 +73,7 @@ returns-3 c =
     let seek = c .before .before .before .seek in
     let if3 = c .before .before .if3 in
     let a = entry .pre in
-    visit-blocked _ _ _ _ _ _ (a .2) (a .1) _ refl _ _ (next-alike _ _ _ _ _ _ _ (outside-free _) (seek .ensures)) (if3 .taken) _ (c .lower .ensures)
+    visit-blocked _ _ _ _ _ _ (a .2) (a .1) _ refl _ _ (next-alike _ _ _ _ _ _ _ (outside-free _) (seek .ensures .next)) (if3 .taken) _ (c .lower .ensures)
 
 returns-4 : tie.Need-returns-4
 unfolding free
@@ -82,7 +82,7 @@ returns-4 c =
     let if1 = c .before .before .before .before .before .before .before .if1 in
     let a = entry .pre in
     visit-ready _ _ _ _ _ _ (a .2) (a .1) _ refl (eq-eqb _ 0 (if1 .left)) _ _
-    (next-alike _ _ _ _ _ _ _ (outside-free _) (c .before .seek .ensures)) (c .if3 .left)
+    (next-alike _ _ _ _ _ _ _ (outside-free _) (c .before .seek .ensures .next)) (c .if3 .left)
 
 pub visit-spec : {M : Type 1} → statement M
 visit-spec =
