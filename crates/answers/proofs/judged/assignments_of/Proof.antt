@@ -19,43 +19,58 @@ enum-told-2 : tie.Need-enum-told-2
 enum-told-2 c = search needs
 
 returns : tie.Need-returns
-returns c = refused-alike _ _ _ _ _ _ _ (c .before .before .before .transition-of .ensures) (marks-fit _ _ (c .before .before .before .before .before .before .before .before .pre .accepted) _) _ (c .enum-told2 .given .1) _ _
+returns c =
+    let t = c .before .before .before in
+    let e = t .before .before .before .before .before .pre .accepted in
+    refused-alike _ _ _ _ _ _ _ (t .transition-of .ensures) (marks-fit _ _ e _) _ (c .enum-told2 .given .1) _ _
 
 array-share-prefix-kept : tie.Need-array-share-prefix-kept
 array-share-prefix-kept c =
-    let e = c .before .before .before .before .before .before .before .before .before .pre .accepted in
-    let w = filled-whole _ _ _ _ _ _ _ (c .before .before .before .before .transition-of .ensures) (marks-fit _ _ e _) _ (c .before .enum-told .given .1) in
-    front-there _ _ e _ (w .there) _ _ (w .bytes) .0
+    let t = c .before in
+    let m = t .before .before .before in
+    let p = m .before .before .before .before .before .pre in
+    let w = filled-whole _ _ _ _ _ _ _ (m .transition-of .ensures) (marks-fit _ _ (p .accepted) _) _ (t .enum-told .given .1) in
+    front-there _ _ (p .accepted) _ (w .there) _ _ (w .bytes) .0
 
 slice-aggregate-fill-assigned : tie.Need-slice-aggregate-fill-assigned
 slice-aggregate-fill-assigned c =
-    let e = c .before .before .before .before .before .before .before .before .before .before .pre .accepted in
-    let w = filled-whole _ _ _ _ _ _ _ (c .before .before .before .before .before .transition-of .ensures) (marks-fit _ _ e _) _ (c .before .before .enum-told .given .1) in
-    front-length _ _ e _ (w .there) _ _ (w .bytes)
+    let t = c .before .before in
+    let m = t .before .before .before in
+    let p = m .before .before .before .before .before .pre in
+    let w = filled-whole _ _ _ _ _ _ _ (m .transition-of .ensures) (marks-fit _ _ (p .accepted) _) _ (t .enum-told .given .1) in
+    front-length _ _ (p .accepted) _ (w .there) _ _ (w .bytes)
 
 slice-aggregate-fill-assigned-2 : tie.Need-slice-aggregate-fill-assigned-2
 slice-aggregate-fill-assigned-2 c = search needs
 
 fill-assigned-requires : tie.Need-fill-assigned-requires
 fill-assigned-requires c κs =
-    let e = c .before .before .before .before .before .before .before .before .before .before .before .pre .accepted in
-    let w = filled-whole _ _ _ _ _ _ _ (c .before .before .before .before .before .before .transition-of .ensures) (marks-fit _ _ e _) _ (c .before .before .before .enum-told .given .1) in
-    fillable _ _ e _ (w .there) _ _ (w .bytes) _ (c .before .before .before .before .before .before .before .before .before .before .before .pre) _ refl
+    let t = c .before .before .before in
+    let m = t .before .before .before in
+    let p = m .before .before .before .before .before .pre in
+    let w = filled-whole _ _ _ _ _ _ _ (m .transition-of .ensures) (marks-fit _ _ (p .accepted) _) _ (t .enum-told .given .1) in
+    fillable _ _ (p .accepted) _ (w .there) _ _ (w .bytes) _ p _ refl
 
 fill-words-requires : tie.Need-fill-words-requires
 fill-words-requires c κs =
-    let e = c .before .before .before .before .before .before .before .before .before .before .before .before .before .before .before .pre .accepted in
-    let w = filled-whole _ _ _ _ _ _ _ (c .before .before .before .before .before .before .before .before .before .before .transition-of .ensures) (marks-fit _ _ e _) _ (c .before .before .before .before .before .before .before .enum-told .given .1) in
-    assigned-there _ _ e _ (w .there) _ _ (w .bytes) _ (c .before .before .before .before .before .before .before .before .before .before .before .before .before .before .before .pre) _ _ _ (c .before .before .before .fill-assigned .ensures .0) (c .before .before .before .fill-assigned .ensures .1)
+    let a = c .before .before .before .fill-assigned .ensures in
+    let t = c .before .before .before .before .before .before .before in
+    let m = t .before .before .before in
+    let p = m .before .before .before .before .before .pre in
+    let w = filled-whole _ _ _ _ _ _ _ (m .transition-of .ensures) (marks-fit _ _ (p .accepted) _) _ (t .enum-told .given .1) in
+    assigned-there _ _ (p .accepted) _ (w .there) _ _ (w .bytes) _ p _ _ _ (a .0) (a .1)
 
 same-length : tie.Need-same-length
 same-length c = search needs
 
 returns-2 : tie.Need-returns-2
 returns-2 c =
-    let e = c .before .before .before .before .before .before .before .before .before .before .before .before .before .before .before .before .before .before .pre .accepted in
-    let w = filled-whole _ _ _ _ _ _ _ (c .before .before .before .before .before .before .before .before .before .before .before .before .before .transition-of .ensures) (marks-fit _ _ e _) _ (c .before .before .before .before .before .before .before .before .before .before .enum-told .given .1) in
-    let assigned = assigned-front _ _ e _ (w .there) _ _ (w .bytes) _ (c .before .before .before .before .before .before .before .before .before .before .before .before .before .before .before .before .before .before .pre) _ _ _ (c .before .before .before .before .before .before .fill-assigned .ensures .0) (c .before .before .before .before .before .before .fill-assigned .ensures .1) in
+    let a = c .before .before .before .before .before .before .fill-assigned .ensures in
+    let t = c .before .before .before .before .before .before .before .before .before .before in
+    let m = t .before .before .before in
+    let p = m .before .before .before .before .before .pre in
+    let w = filled-whole _ _ _ _ _ _ _ (m .transition-of .ensures) (marks-fit _ _ (p .accepted) _) _ (t .enum-told .given .1) in
+    let assigned = assigned-front _ _ (p .accepted) _ (w .there) _ _ (w .bytes) _ p _ _ _ (a .0) (a .1) in
     whole _ _ _ _ _ _ (w .there) _ (sym (w .has-all)) refl (rw assigned at (c .before .before .fill-words .ensures))
 
 pub assignments-of-spec : {M : Type 1} → statement M
