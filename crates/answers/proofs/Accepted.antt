@@ -96,7 +96,8 @@ module _ (words : List ℕ) (a : Accepted) (e : judgedOf words ≡ judged.Accept
   pub few-chosen : a .layout .chosen ≤ 2048
   few-chosen =
       let p = parts-of words (a .layout) is-sound in
-      let none = to-none (λ x. not (isCandidate (formulaIn words (a .layout)) x)) (proposalIn words (a .layout)) (λ x t. ap not (is-strategy .homogeneous x (mem-has t))) in
+      let f = formulaIn words (a .layout) in
+      let none = to-none (λ x. not (isCandidate f x)) (proposalIn words (a .layout)) (λ x t. ap not (is-strategy .homogeneous x (mem-has t))) in
       omega (arith, chosen-rows p (kinds-of p none) .few, is-understood .chosen-there)
 
   -- the reported order places all chosen labels
@@ -131,7 +132,8 @@ module _ (words order₀ order : List ℕ) (j : Judged) (i : JudgedInto words or
     -- it is all there
     pub order-there : (a .layout .chosen ≤ length order) × (a .layout .chosen ≤ 2048)
     order-there =
-        let taken = ap length (i .ordered (a .layout) (a .transitions) e) ∙ length-map (reported words (a .layout)) (λ x. x .0) ∙ reported-length words a accepts in
+        let l = a .layout in
+        let taken = ap length (i .ordered l (a .transitions) e) ∙ length-map (reported words l) (λ x. x .0) ∙ reported-length words a accepts in
         (omega (arith, simp length-take at taken), few-chosen words a accepts)
 
     pub order-stands : Ordered words a order

@@ -83,7 +83,8 @@ module _ (words : List ℕ) (k : ℕ) (l : Layout) (count : ℕ) (kept left : Li
       → Fills (ofTransition what words k (length lent) l count) lent lent r
   unfolding ofTransition
   refused-alike x e what lent =
-      same-refusal k count (marksOf words l k) (leb count k) (eqb (length (keyOf words l k)) (l .variables)) (with-room .answered) x e (unlessShort (length lent) (what words l k)) lent
+      same-refusal k count (marksOf words l k) (leb count k) (eqb (length (keyOf words l k)) (l .variables)) (with-room .answered) x e
+      (unlessShort (length lent) (what words l k)) lent
 
   pub record Whole (n : Length) : Type 0 where
     pub there : k < count

@@ -108,13 +108,16 @@ module _ (words : List ℕ) (a : Accepted) (e : AcceptedAs words a) where
     numbers = numbers-say (l .variables) f A (u .well-formed) (is-strategy words a e .homogeneous) (is-strategy words a e .minimal)
 
     says : TransitionSays (l .variables) f A k
-    says = transition-says (l .variables) f A (u .well-formed) (is-strategy words a e .homogeneous) (is-strategy words a e .minimal) (u .within .chosen-ascend) k among
+    says =
+        let s = is-strategy words a e in
+        transition-says (l .variables) f A (u .well-formed) (s .homogeneous) (s .minimal) (u .within .chosen-ascend) k among
 
     pub keepable : {marks out : List ℕ} {own : Distinct} → Marked (map ℓ lentChosen) marks → own ≡ keysAt lentRows marks 64 0 → length out ≡ 4096
         → Keepable lentRows marks out (l .rows) 0 64 own k true
     keepable {marks} {out} {own} m own-are room =
+        let s = is-strategy words a e in
         rw rows-lent
-        (transition-keepable (l .variables) f A (u .well-formed) (is-strategy words a e .homogeneous) (is-strategy words a e .minimal) (u .within .chosen-ascend) k among
+        (transition-keepable (l .variables) f A (u .well-formed) (s .homogeneous) (s .minimal) (u .within .chosen-ascend) k among
         (readsIn words l) refl (walkable (parts-of words l (is-sound words a e))) (lent-marked m) (omega (arith, count-is words a e, few-transitions words a e))
         own (rw rows-lent at own-are) out (omega (arith, u .most-rows)))
 
@@ -161,7 +164,8 @@ module _ (words : List ℕ) (a : Accepted) (e : AcceptedAs words a) where
       pub chosen-counted : length (keptOf (take (l .rows) left) lentChosen) ≡ length (keyOf words l k)
       chosen-counted =
           rw (front-bytes, chosen-lent)
-          (sym (length-map (keptOf (kthBytes f A k (l .rows)) (chosenIn words l)) ℓ) ∙ ap length (says .chosen-are (l .rows) (chosenIn words l) refl chosen-below))
+          (sym (length-map (keptOf (kthBytes f A k (l .rows)) (chosenIn words l)) ℓ)
+          ∙ ap length (says .chosen-are (l .rows) (chosenIn words l) refl chosen-below))
 
       -- in reported order
       module _ (order : List ℕ) (o : Ordered words a order) where

@@ -32,7 +32,9 @@ fn keep(words: &[u16], a: Accepted, k: usize, kept: &mut [u8]) -> usize
 // The kept labels of transition k, in the first N bytes of `out`.
 pub fn transition_of(words: &[u16], a: Accepted, k: usize, out: &mut [u8]) -> Filled
     requires { ⌜ AcceptedAs (now words) a ⌝ }
-    ensures { λ r. ⌜ Fills (transitionOutcome (now (words .entry)) k (length (now (out .entry))) (a .layout) (a .transitions)) (now (out .entry)) (now (out .exit)) r ⌝ }
+    ensures { λ r.
+        ⌜ Fills (transitionOutcome (now (words .entry)) k (length (now (out .entry))) (a .layout) (a .transitions))
+        (now (out .entry)) (now (out .exit)) r ⌝ }
 {
     let l = a.layout;
     let count = a.transitions;
@@ -57,7 +59,9 @@ pub fn assignments_of(
     out: &mut [u16],
 ) -> Filled
     requires { ⌜ Ordered (now words) a (now order) ⌝ }
-    ensures { λ r. ⌜ Fills (assignmentsOutcome (now (words .entry)) k (length (now (out .entry))) (a .layout) (a .transitions)) (now (out .entry)) (now (out .exit)) r ⌝ }
+    ensures { λ r.
+        ⌜ Fills (assignmentsOutcome (now (words .entry)) k (length (now (out .entry))) (a .layout) (a .transitions))
+        (now (out .entry)) (now (out .exit)) r ⌝ }
 {
     let mut kept = [0u8; 4096];
     let marked = transition_of(words, a, k, &mut kept);

@@ -11,5 +11,7 @@ use Rattle.answers.specs.Requests.{judgeOf, outcomeOf, ofTransition}
 use Rattle.demands.specs.Cases.{listing, starred}
 
 pub starred-cases : map (λ c. listing (c .words)) starred ≡ map (λ c. c .expected) starred
-unfolding first formOf meets ascend takenBefore falseRule starRule candidateRule joinRule boundRule endsWithin keepsRules roundOf openAt variablesAt readsAt rowsAt strategyAt endAt sections checked starAt childrenAt nodeAt formulaAt judgedOf judgeOf outcomeOf ofTransition
+unfolding first formOf meets ascend takenBefore falseRule starRule candidateRule joinRule boundRule endsWithin keepsRules roundOf
+    openAt variablesAt readsAt rowsAt strategyAt endAt sections checked starAt childrenAt nodeAt formulaAt
+    judgedOf judgeOf outcomeOf ofTransition
 starred-cases = refl

@@ -155,7 +155,8 @@ module _ (words : List ℕ) (a : Accepted) (e : judgedOf words ≡ judged.Accept
       ∙ known .chosen-there
 
   -- on a branch of class k the chosen labels are those of key k
-  on-branch : (k : ℕ) (b : List Label) → List·Memᴰ b (class f A (keyOf words l k)) → those (has (keyOf words l k)) (reported words l) ≡ those (has b) (reported words l)
+  on-branch : (k : ℕ) (b : List Label) → List·Memᴰ b (class f A (keyOf words l k))
+      → those (has (keyOf words l k)) (reported words l) ≡ those (has b) (reported words l)
   on-branch k b t =
       let (u, s) = of-those (λ c. sameKey (key A c) (keyOf words l k)) (branches f) t in
       let one-key = sameKey-eq (key A b) (keyOf words l k) s in

@@ -54,7 +54,8 @@ module _ (words : List ℕ) (l : Layout) where
   -- be carried out in it from nothing set; and those of the branches of class k are what the assignments request gives.
   pub record CarriedOutInOrder : Type 0 where
     pub order : (room : ℕ) → l .chosen ≤ room → orderOf words room ≡ fills (map (λ i. i .0) (reported words l))
-    pub carried : (b : List Label) → List·Memᴰ b (branches (formulaIn words l)) → Carried (l .variables) (formulaIn words l) unset (those (has b) (reported words l))
+    pub carried : (b : List Label) → List·Memᴰ b (branches (formulaIn words l))
+        → Carried (l .variables) (formulaIn words l) unset (those (has b) (reported words l))
     pub assigned : (k room : ℕ) → k < length keysIn → l .variables ≤ room → assignmentsOf words k room ≡ fills (assignedOf words l k)
     pub of-branch : (k : ℕ) → k < length keysIn → (b : List Label) → List·Memᴰ b (class (formulaIn words l) (proposalIn words l) (keyOf words l k))
         → those (has (keyOf words l k)) (reported words l) ≡ those (has b) (reported words l)

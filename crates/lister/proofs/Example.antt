@@ -25,5 +25,7 @@ words-of-P = refl
 
 pub listings : (listingOf bytesOfP ≡ ascii "accepted 2 8 3 2\norder 1 4 6\n0 assign 1 4 keep 1 4\n1 assign 1 6 keep 1 6\n")
     × (listingOf [] ≡ ascii "refused 1 0\n") × (listingOf (2 ∷ []) ≡ ascii "refused 17 0\n")
-unfolding first formOf meets ascend takenBefore falseRule starRule candidateRule joinRule boundRule endsWithin keepsRules roundOf openAt variablesAt readsAt rowsAt strategyAt endAt sections checked starAt childrenAt nodeAt formulaAt judgedOf digits decimal fields acceptedLine orderLine transitionLine refusedLine wordsOf judgedBytes lineOf linesFrom
+unfolding first formOf meets ascend takenBefore falseRule starRule candidateRule joinRule boundRule endsWithin keepsRules roundOf
+    openAt variablesAt readsAt rowsAt strategyAt endAt sections checked starAt childrenAt nodeAt formulaAt judgedOf
+    digits decimal fields acceptedLine orderLine transitionLine refusedLine wordsOf judgedBytes lineOf linesFrom
 listings = (refl, refl, refl)

@@ -87,7 +87,8 @@ fn note_parents(rows: &[u16], n: u16, net: &mut [u16; 11264])
 
 // The star of the innermost guard around a row that is not the first, from those of the rows before it.
 fn guarded_by(rows: &[u16], net: &[u16; 11264], n: u16, at: Label) -> Label
-    requires { ⌜ Tree (now rows) n × (0 < at .0) × (at .0 < n) × (getD (now net) (at .0) 0 ≡ parentOf (now rows) (at .0)) × ((i : ℕ) → i < at .0 → getD (now net) (guardsFrom + i) 0 ≡ guardOf (now rows) i) ⌝ }
+    requires { ⌜ Tree (now rows) n × (0 < at .0) × (at .0 < n) × (getD (now net) (at .0) 0 ≡ parentOf (now rows) (at .0))
+        × ((i : ℕ) → i < at .0 → getD (now net) (guardsFrom + i) 0 ≡ guardOf (now rows) i) ⌝ }
     ensures { λ r. ⌜ r ≡ ℓ (guardOf (now (rows .entry)) (at .0)) ⌝ }
 {
     let top = parent_of(net, at);
@@ -119,7 +120,8 @@ fn note_guards(rows: &[u16], n: u16, net: &mut [u16; 11264])
 // Notes for each variable that it has no chosen label yet: the number of chosen labels.
 fn note_none(none: u16, net: &mut [u16; 11264])
     requires { ⌜ length (now net) ≡ netLength ⌝ }
-    ensures { λ _. ⌜ (length (now (net .exit)) ≡ netLength) × (take firstsFrom (now (net .exit)) ≡ take firstsFrom (now (net .entry))) × ((v : ℕ) → v < 1024 → getD (now (net .exit)) (firstsFrom + v) 0 ≡ none) ⌝ }
+    ensures { λ _. ⌜ (length (now (net .exit)) ≡ netLength) × (take firstsFrom (now (net .exit)) ≡ take firstsFrom (now (net .entry)))
+        × ((v : ℕ) → v < 1024 → getD (now (net .exit)) (firstsFrom + v) 0 ≡ none) ⌝ }
 {
     let mut v = 0;
     while v < 1024 {
@@ -157,7 +159,8 @@ pub fn note_net(rows: &[u16], chosen: &[u16], n: u16, net: &mut [u16; 11264])
 // Whether candidates i and j share a branch, and what that tells of the labels after i: i itself where they do, else a label
 // above it below which none from i on shares a branch with j.
 pub fn clear_of(rows: &[u16], net: &[u16; 11264], n: u16, i: Label, j: Label) -> Label
-    requires { ⌜ Tree (now rows) n × Parents (now rows) n (now net) × (i .0 < n) × (j .0 < n) × (kindOf (now rows) (i .0) ≡ 2) × (kindOf (now rows) (j .0) ≡ 2) ⌝ }
+    requires { ⌜ Tree (now rows) n × Parents (now rows) n (now net) × (i .0 < n) × (j .0 < n)
+        × (kindOf (now rows) (i .0) ≡ 2) × (kindOf (now rows) (j .0) ≡ 2) ⌝ }
     ensures { λ r. ⌜ Cleared (now (rows .entry)) (i .0) (j .0) (r .0) ⌝ }
 {
     if i.0 == j.0 {

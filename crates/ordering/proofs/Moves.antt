@@ -79,7 +79,8 @@ module _ (g : Graph) (k : ℕ) (placed finger wait low : List ℕ) (s : State g 
       state = moved h f l x low refl (λ i. omega arith) (λ hl. absurd (omega arith));
       passed = λ q. never _ e q;
       ready = λ _.
-          (p, subst (λ z. (i : ℕ) → i < g .size → g .passed k z i ≡ true) (sym (getD-set-same finger k f 0 (omega (arith, s .small, s .fingers)))) (x .out out));
+          let now = getD-set-same finger k f 0 (omega (arith, s .small, s .fingers)) in
+          (p, subst (λ z. (i : ℕ) → i < g .size → g .passed k z i ≡ true) (sym now) (x .out out));
     }
 
     pub visit-blocked : r ≡ false → (f l : ℕ) → Next g (free placed) k (getD finger k 0) f l → l < g .size → (low′ : List ℕ) → Lowered low l k low′

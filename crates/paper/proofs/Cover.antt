@@ -171,8 +171,9 @@ module _ (v : Variable) (p : Label → Bool) where
         agrees-at-leaves (suc (s .label .0)) f (r .1 .1) (λ i h. k i (or-right (same i l) _ (or-right (same i (s .label)) _ h)))
     agrees-at-leaves n (IF l s f g) r k =
         let under : Agrees (labels f ++ labels g) (candidates f ++ candidates g) = λ i h. k i (or-right (same i l) _ (or-right (same i (s .label)) _ h)) in
-        let (q, rf, rg, kf, kg) = agrees-apart (suc (s .label .0)) (labels f) (labels g) (candidates f) (candidates g) (r .1 .1) (candidate-sub f) (candidate-sub g) under in
-        (agrees-at-leaves (suc (s .label .0)) f rf kf, agrees-at-leaves q g rg kg)
+        let m = suc (s .label .0) in
+        let (q, rf, rg, kf, kg) = agrees-apart m (labels f) (labels g) (candidates f) (candidates g) (r .1 .1) (candidate-sub f) (candidate-sub g) under in
+        (agrees-at-leaves m f rf kf, agrees-at-leaves q g rg kg)
 
     agrees-at-leaves-of : (n : ℕ) (fs : Formulas) → Rising n (labelsOf fs) → Agrees (labelsOf fs) (candidatesOf fs) → LeavesOfAgree fs
     agrees-at-leaves-of n (only f) r k = agrees-at-leaves n f r k

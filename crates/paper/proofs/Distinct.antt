@@ -110,7 +110,9 @@ isLower-transitive (x ∷ i) (y ∷ j) (z ∷ k) a b = go (or-cases (ltb (x .0) 
     go (inl p) (inl q) r = less (let s = ltb-true (x .0) (y .0) p in let t = ltb-true (y .0) (z .0) q in omega arith)
     go (inl p) (inr q) r = less (let s = ltb-true (x .0) (y .0) p in let t = num y z _ q in omega arith)
     go (inr p) (inl q) r = less (let s = num x y _ p in let t = ltb-true (y .0) (z .0) q in omega arith)
-    go (inr p) (inr q) r = or-right (ltb (x .0) (z .0)) _ (both (same x z) _ (eq-eqb (x .0) (z .0) (num x y _ p ∙ num y z _ q)) (r (and-right (same x y) _ p) (and-right (same y z) _ q)))
+    go (inr p) (inr q) r =
+        let same-first = eq-eqb (x .0) (z .0) (num x y _ p ∙ num y z _ q) in
+        or-right (ltb (x .0) (z .0)) _ (both (same x z) _ same-first (r (and-right (same x y) _ p) (and-right (same y z) _ q)))
 
 isLower-total : (j k : List Label) → (isLower j k ≡ true) ⊎ ((j ≡ k) ⊎ (isLower k j ≡ true))
 isLower-total [] [] = inr (inl refl)
@@ -168,7 +170,9 @@ ascending-ext [] (y ∷ ys) c d f g = absurd (List·Memᴰ·not-nil (g y (List·
 ascending-ext (x ∷ xs) [] c d f g = absurd (List·Memᴰ·not-nil (f x (List·Memᴰ·head refl)))
 ascending-ext (x ∷ xs) (y ∷ ys) c d f g =
     let e = heads (List·Memᴰ·cases-cons (f x (List·Memᴰ·head refl))) (List·Memᴰ·cases-cons (g y (List·Memᴰ·head refl))) in
-    let q = ascending-ext xs ys (c .1) (d .1) (λ k t. tail xs ys x y e (c .0) k t (f k (List·Memᴰ·tail t))) (λ k t. tail ys xs y x (sym e) (d .0) k t (g k (List·Memᴰ·tail t))) in cc
+    let q = ascending-ext xs ys (c .1) (d .1)
+    (λ k t. tail xs ys x y e (c .0) k t (f k (List·Memᴰ·tail t)))
+    (λ k t. tail ys xs y x (sym e) (d .0) k t (g k (List·Memᴰ·tail t))) in cc
   where
     heads : (x ≡ y) ⊎ List·Memᴰ x ys → (y ≡ x) ⊎ List·Memᴰ y xs → x ≡ y
     heads (inl e) q = e

@@ -91,7 +91,10 @@ rising-ext p q (x ∷ xs) (y ∷ ys) r s f g =
     let e = heads in let t = rising-ext (suc (x .0)) (suc (y .0)) xs ys (r .1) (s .1) (tail xs ys x y e (r .1) f) (tail ys xs y x (sym e) (s .1) g) in cc
   where
     at-least : (a b : Label) (bs : List Label) → Rising (suc (b .0)) bs → has (b ∷ bs) a ≡ true → b .0 ≤ a .0
-    at-least a b bs u h = pick (or-cases (same a b) (has bs a) h) (λ e. let q = ap (λ (l : Label). l .0) (same-eq a b e) in omega arith) (λ t. let q = rising-above bs a u t in omega arith)
+    at-least a b bs u h =
+        pick (or-cases (same a b) (has bs a) h)
+        (λ e. let q = ap (λ (l : Label). l .0) (same-eq a b e) in omega arith)
+        (λ t. let q = rising-above bs a u t in omega arith)
 
     heads : x ≡ y
     heads = ap (λ n. record { 0 = n }) (le-antisymm (at-least y x xs (r .1) (g y (has-head y ys))) (at-least x y ys (s .1) (f x (has-head x xs))))
@@ -107,7 +110,9 @@ pub sub-has : {xs ys : List Label} (l : Label) → Sublistᴰ xs ys → has xs l
 sub-has l Sublistᴰ·slnil h = h
 sub-has l (Sublistᴰ·cons {a = a} {l₂ = ys} s) h = or-right (same l a) (has ys l) (sub-has l s h)
 sub-has l (Sublistᴰ·cons-cons {a = a} {b = b} {l₁ = xs} {l₂ = ys} e s) h =
-    pick (or-cases (same l a) (has xs l) h) (λ q. or-left (same l b) (has ys l) (subst (λ z. same l z ≡ true) e q)) (λ q. or-right (same l b) (has ys l) (sub-has l s q))
+    pick (or-cases (same l a) (has xs l) h)
+    (λ q. or-left (same l b) (has ys l) (subst (λ z. same l z ≡ true) e q))
+    (λ q. or-right (same l b) (has ys l) (sub-has l s q))
 
 one-label : {b : List Label} {l : Label} (ls : List Label) → List·Memᴰ b ((l ∷ []) ∷ []) → Sublistᴰ b (l ∷ ls)
 one-label {b} {l} ls t = subst (λ c. Sublistᴰ c (l ∷ ls)) (sym (List·Memᴰ·eq-of-singleton t)) (Sublistᴰ·cons-cons refl (Sublistᴰ·nil-sublist ls))
@@ -115,7 +120,9 @@ one-label {b} {l} ls t = subst (λ c. Sublistᴰ c (l ∷ ls)) (sym (List·Mem�
 of-either : (xs ys : List Label) (bs cs : List (List Label)) (b : List Label) → (List·Memᴰ b bs → Sublistᴰ b xs) → (List·Memᴰ b cs → Sublistᴰ b ys)
     → List·Memᴰ b (bs ++ cs) → Sublistᴰ b (xs ++ ys)
 of-either xs ys bs cs b l r t =
-    pick (List·Memᴰ·append-cases bs t) (λ s. subst (λ z. Sublistᴰ z (xs ++ ys)) (append-nil b) (Sublistᴰ·append (l s) (Sublistᴰ·nil-sublist ys))) (λ s. Sublistᴰ·append (Sublistᴰ·nil-sublist xs) (r s))
+    pick (List·Memᴰ·append-cases bs t)
+    (λ s. subst (λ z. Sublistᴰ z (xs ++ ys)) (append-nil b) (Sublistᴰ·append (l s) (Sublistᴰ·nil-sublist ys)))
+    (λ s. Sublistᴰ·append (Sublistᴰ·nil-sublist xs) (r s))
 
 -- a branch is a part of the labels
 mutual
@@ -126,7 +133,9 @@ mutual
   branch-sub (conjunction l fs) b t = Sublistᴰ·cons (each-sub fs b t)
   branch-sub (disjunction l fs) b t = Sublistᴰ·cons (any-sub fs b t)
   branch-sub (exists l s f) b t = Sublistᴰ·cons (Sublistᴰ·cons (branch-sub f b t))
-  branch-sub (IF l s f g) b t = Sublistᴰ·cons (Sublistᴰ·cons (of-either (labels f) (labels g) (branches f) (branches g) b (λ u. branch-sub f b u) (λ u. branch-sub g b u) t))
+  branch-sub (IF l s f g) b t =
+      let under = of-either (labels f) (labels g) (branches f) (branches g) b (λ u. branch-sub f b u) (λ u. branch-sub g b u) t in
+      Sublistᴰ·cons (Sublistᴰ·cons under)
 
   pub each-sub : (fs : Formulas) (b : List Label) → List·Memᴰ b (ofEach fs) → Sublistᴰ b (labelsOf fs)
   each-sub (only f) b t = branch-sub f b t
@@ -171,7 +180,9 @@ mutual
   candidate-sub (conjunction l fs) = Sublistᴰ·cons (candidates-sub fs)
   candidate-sub (disjunction l fs) = Sublistᴰ·cons (candidates-sub fs)
   candidate-sub (exists l s f) = Sublistᴰ·cons (Sublistᴰ·cons (candidate-sub f))
-  candidate-sub (IF l s f g) = rw (map-append labelOf (candidates f) (candidates g)) (Sublistᴰ·cons (Sublistᴰ·cons (Sublistᴰ·append (candidate-sub f) (candidate-sub g))))
+  candidate-sub (IF l s f g) =
+      rw (map-append labelOf (candidates f) (candidates g))
+      (Sublistᴰ·cons (Sublistᴰ·cons (Sublistᴰ·append (candidate-sub f) (candidate-sub g))))
 
   pub candidates-sub : (fs : Formulas) → Sublistᴰ (map labelOf (candidatesOf fs)) (labelsOf fs)
   candidates-sub (only f) = candidate-sub f

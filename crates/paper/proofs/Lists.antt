@@ -187,11 +187,16 @@ module _ {A : Type 0} where
 
   pub pairs-append : (xs ys zs : List (List A)) → pairs (xs ++ ys) zs ≡ pairs xs zs ++ pairs ys zs
   pairs-append [] ys zs = refl
-  pairs-append (x ∷ xs) ys zs = ap (λ r. map (λ z. x ++ z) zs ++ r) (pairs-append xs ys zs) ∙ sym (append-assoc (map (λ z. x ++ z) zs) (pairs xs zs) (pairs ys zs))
+  pairs-append (x ∷ xs) ys zs =
+      ap (λ r. map (λ z. x ++ z) zs ++ r) (pairs-append xs ys zs)
+      ∙ sym (append-assoc (map (λ z. x ++ z) zs) (pairs xs zs) (pairs ys zs))
 
   pairs-front : (x : List A) (ys zs : List (List A)) → pairs (map (λ y. x ++ y) ys) zs ≡ map (λ z. x ++ z) (pairs ys zs)
   pairs-front x [] zs = refl
-  pairs-front x (y ∷ ys) zs = let e = map-front x y zs in let r = pairs-front x ys zs in let s = map-append (λ z. x ++ z) (map (λ z. y ++ z) zs) (pairs ys zs) in cc
+  pairs-front x (y ∷ ys) zs =
+      let e = map-front x y zs in
+      let r = pairs-front x ys zs in
+      let s = map-append (λ z. x ++ z) (map (λ z. y ++ z) zs) (pairs ys zs) in cc
 
   pub pairs-assoc : (xs ys zs : List (List A)) → pairs (pairs xs ys) zs ≡ pairs xs (pairs ys zs)
   pairs-assoc [] ys zs = refl

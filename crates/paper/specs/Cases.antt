@@ -67,7 +67,8 @@ twice = conjunction (ℓ 0) (assign 1 0 [] ⨾ only (assign 3 0 []))
 abbrev pub four : Formula
 four = conjunction (ℓ 0)
     (disjunction (ℓ 1) (conjunction (ℓ 2) (assign 3 0 (3 ∷ []) ⨾ only (assign 5 2 [])) ⨾ only (conjunction (ℓ 7) (assign 8 2 (1 ∷ []) ⨾ only (assign 10 0 []))))
-    ⨾ only (disjunction (ℓ 12) (conjunction (ℓ 13) (assign 14 1 (0 ∷ []) ⨾ only (assign 16 3 [])) ⨾ only (conjunction (ℓ 18) (assign 19 3 (2 ∷ []) ⨾ only (assign 21 1 []))))))
+    ⨾ only (disjunction (ℓ 12)
+    (conjunction (ℓ 13) (assign 14 1 (0 ∷ []) ⨾ only (assign 16 3 [])) ⨾ only (conjunction (ℓ 18) (assign 19 3 (2 ∷ []) ⨾ only (assign 21 1 []))))))
 
 abbrev pub starred : List Case
 starred =
@@ -75,12 +76,22 @@ starred =
       variables = 2;
       formula = P;
       strategy = 1 ∷ 4 ∷ 6 ∷ [];
-      expected = record { judgement = accepted 2 8 3 2; order = 1 ∷ 4 ∷ 6 ∷ []; keys = (1 ∷ 4 ∷ []) ∷ (1 ∷ 6 ∷ []) ∷ []; kept = (1 ∷ 4 ∷ []) ∷ (1 ∷ 6 ∷ []) ∷ [] };
+      expected = record {
+        judgement = accepted 2 8 3 2;
+        order = 1 ∷ 4 ∷ 6 ∷ [];
+        keys = (1 ∷ 4 ∷ []) ∷ (1 ∷ 6 ∷ []) ∷ [];
+        kept = (1 ∷ 4 ∷ []) ∷ (1 ∷ 6 ∷ []) ∷ [];
+      };
     }
     ∷ record { variables = 2; formula = P; strategy = 1 ∷ 4 ∷ []; expected = refusedWith 11 1 }
     ∷ record { variables = 2; formula = P; strategy = 1 ∷ 2 ∷ 4 ∷ 6 ∷ []; expected = refusedWith 10 2 }
     ∷ record { variables = 1; formula = assign 0 0 (0 ∷ []); strategy = 0 ∷ []; expected = refusedWith 13 0 }
-    ∷ record { variables = 2; formula = conjunction (ℓ 0) (assign 1 0 (1 ∷ []) ⨾ only (assign 3 1 (0 ∷ []))); strategy = 1 ∷ 3 ∷ []; expected = refusedWith 13 1 }
+    ∷ record {
+      variables = 2;
+      formula = conjunction (ℓ 0) (assign 1 0 (1 ∷ []) ⨾ only (assign 3 1 (0 ∷ [])));
+      strategy = 1 ∷ 3 ∷ [];
+      expected = refusedWith 13 1;
+    }
     ∷ record {
       variables = 1;
       formula = twice;

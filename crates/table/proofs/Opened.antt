@@ -4,7 +4,7 @@ use native.Mathlib.Omega.{arith}
 use mathlib.Core.Bool.{Bool, true, false, cond, _||_}
 use mathlib.Core.List.{List}
 use mathlib.Core.Path.{_≡_, refl, sym, ap, subst, _∙_}
-use borrow.Author.Tests.{eqb-false, ne-eqb, ltb-false, le-ltb}
+use borrow.Author.Tests.{eqb-false, ne-eqb, ltb-false, lt-ltb, le-ltb}
 use lib.Dec.{ltb, eqb}
 use lib.ListN.{length, getD, take, drop, length-drop}
 use Rattle.table.specs.declared.Refusal.{Refusal}
@@ -12,7 +12,7 @@ use Rattle.table.specs.declared.Cursor.{Cursor}
 use Rattle.table.specs.declared.Step.{Step}
 use Rattle.table.specs.declared.Step.the-variants.{Next, Halt}
 use Rattle.entries.specs.First.{first}
-use Rattle.table.specs.Sections.{andThen, unless, openAt}
+use Rattle.table.specs.Sections.{halt, andThen, unless, openAt}
 use Rattle.entries.proofs.First.{first-le, neither}
 use Rattle.rows.proofs.Rules.{rest}
 
@@ -89,6 +89,18 @@ module _ (part : List ℕ) (c : Cursor) (low high width : ℕ) where
 
     pub of-held : (n : ℕ) → Opened part low high width n → first (bad n) n ≡ n → sectionAt ≡ next (behind c width n)
     of-held n o e = rw (of-opened n o) (of-unless number base (bad n) n _ e)
+
+-- What the code of a section answers: its opening s gave the cursor d, and the search over the entries stopped at k.
+module _ (part : List ℕ) (c : Cursor) (low high width number base : ℕ) (bad : Cursor → ℕ → Bool) (next : Cursor → Step) where
+  abbrev searched : Step
+  searched = andThen (openAt part c low high width) (λ m. unless number base (bad m) (m .count) (next m))
+
+  module _ {s : Step} (opening : s ≡ openAt part c low high width) {d : Cursor} (came : s ≡ Next d) {k : ℕ} (lowest : k ≡ first (bad d) (d .count)) where
+    pub some-bad : k < d .count → halt number (base + k) ≡ searched
+    some-bad h = rw (← opening, came, ← lowest, lt-ltb k (d .count) h)
+
+    pub none-bad : d .count ≤ k → next d ≡ searched
+    none-bad h = rw (← opening, came, ← lowest, le-ltb k (d .count) h)
 
 -- the entries are there, in the list that is lent by `&part[1..]`
 pub entries-there : {part : List ℕ} {low high width n : ℕ} → Opened part low high width n → n * width ≤ length (take (length part - 1) (drop 1 part))

@@ -24,7 +24,8 @@ abbrev rowsOfP : List ℕ
 rowsOfP = rowsIn wordsOfP layoutOfP
 
 pub P-is-sound : checked wordsOfP ≡ Sound layoutOfP
-unfolding first formOf meets ascend takenBefore falseRule starRule candidateRule joinRule boundRule endsWithin keepsRules roundOf openAt variablesAt readsAt rowsAt strategyAt endAt sections checked
+unfolding first formOf meets ascend takenBefore falseRule starRule candidateRule joinRule boundRule endsWithin keepsRules roundOf
+    openAt variablesAt readsAt rowsAt strategyAt endAt sections checked
 P-is-sound = refl
 
 pub P-is-written : written tableOfP ≡ wordsOfP

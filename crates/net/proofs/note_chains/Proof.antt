@@ -102,7 +102,9 @@ loop-again c =
     )
 
 returns : tie.Need-returns Inv-loop μ-loop
-returns c = let inv = c .before .loop .inv in (linked-all _ _ (inv .1) (omega arith), only-then (only-before _ (c .before .before .note-none .ensures .1)) (inv .2))
+returns c =
+    let inv = c .before .loop .inv in
+    (linked-all _ _ (inv .1) (omega arith), only-then (only-before _ (c .before .before .note-none .ensures .1)) (inv .2))
 
 pub note-chains-spec : {M : Type 1} → statement M
 note-chains-spec =

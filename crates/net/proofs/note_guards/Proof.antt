@@ -68,7 +68,9 @@ loop-again c =
     )
 
 returns : tie.Need-returns Inv-loop μ-loop
-returns c = let inv = c .before .loop .inv in (inv .1, guards-fewer _ (inv .2) (omega arith), inv .3, only-then (only-more 0 only-none (omega arith, omega arith)) (inv .4))
+returns c =
+    let inv = c .before .loop .inv in
+    (inv .1, guards-fewer _ (inv .2) (omega arith), inv .3, only-then (only-more 0 only-none (omega arith, omega arith)) (inv .4))
 
 pub note-guards-spec : {M : Type 1} → statement M
 note-guards-spec =

@@ -16,7 +16,9 @@ note-guards-requires : tie.Need-note-guards-requires
 note-guards-requires c κs = let p = c .before in (p .before .before .before .before .pre .0 .tree, p .note-parents .ensures .0)
 
 note-chains-requires : tie.Need-note-chains-requires
-note-chains-requires c κs = let g = c .before in (g .before .before .before .before .before .before .pre .0, g .note-guards .ensures .0, g .note-guards .ensures .1)
+note-chains-requires c κs =
+    let g = c .before in
+    (g .before .before .before .before .before .before .pre .0, g .note-guards .ensures .0, g .note-guards .ensures .1)
 
 not-chained : (#S : ℕ) → ChainWord #S guardsFrom → ⊥
 not-chained #S (inl h) = omega (arith, h .0)

@@ -27,7 +27,9 @@ loop-less : tie.Need-loop-less Inv-loop μ-loop
 loop-less c = search needs
 
 loop-again : tie.Need-loop-again Inv-loop μ-loop
-loop-again c = copy-goes-on _ _ _ _ _ (c .before .before .before .pre .0) (c .before .before .before .pre .2) (c .before .loop-test .taken) (c .before .before .loop .inv)
+loop-again c =
+    let l = c .before .before in
+    copy-goes-on _ _ _ _ _ (l .before .pre .0) (l .before .pre .2) (c .before .loop-test .taken) (l .loop .inv)
 
 same-length : tie.Need-same-length Inv-loop μ-loop
 same-length c = search needs

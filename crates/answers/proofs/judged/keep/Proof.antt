@@ -102,7 +102,8 @@ count-kept-requires c κs =
     let ma = m .before .before .before .before .before .before .before in
     let s = ma .before .before .before .before .before in
     let e = s .pre in
-    let n = front-length _ _ (e .accepted) _ (e .there) _ _ (bytes-left _ _ (e .accepted) _ (e .there) (ma .marks-of .ensures .marked) (m .mark-kept .ensures)) in
+    let left = bytes-left _ _ (e .accepted) _ (e .there) (ma .marks-of .ensures .marked) (m .mark-kept .ensures) in
+    let n = front-length _ _ (e .accepted) _ (e .there) _ _ left in
     lent-below _ _ (e .accepted) _ (omega arith)
 
 same-length : tie.Need-same-length

@@ -39,10 +39,14 @@ loop-less c = omega arith
 
 loop-again : tie.Need-loop-again Inv-loop μ-loop
 loop-again c =
-    let k = c .before .before .loop .k in
-    let m = c .before .before .loop .inv .1 in (
+    let l = c .before .before in
+    let k = l .loop .k in
+    let m = l .loop .inv .1 in (
       omega arith,
-      record { marked = marked-more _ k (m .marked) (omega arith) (c .before .before .before .pre k (omega arith)); bits = bits-more (c .before .before .loop .marks) (getD (c .before .before .before .args .chosen .now) k 0) (m .bits) },
+      record {
+        marked = marked-more _ k (m .marked) (omega arith) (l .before .pre k (omega arith));
+        bits = bits-more (l .loop .marks) (getD (l .before .args .chosen .now) k 0) (m .bits);
+      },
     )
 
 returns : tie.Need-returns Inv-loop μ-loop

@@ -64,7 +64,8 @@ put-lines-requires c κs =
     let m = k .before .before .before .before in
     let s = m .before .before .before .before .before .before .before in
     let i = l .loop .inv in
-    (listable (s .pre .0 .ordered) (m .marks-of .ensures .marked) (k .keys-of .ensures .0), lt .loop-test .taken, line-room (s .pre .0 .ordered) _ (i .1 ∙ s .pre .1))
+    let o = s .pre .0 .ordered in
+    (listable o (m .marks-of .ensures .marked) (k .keys-of .ensures .0), lt .loop-test .taken, line-room o _ (i .1 ∙ s .pre .1))
 
 slice-reshare-prefix-write-lines : tie.Need-slice-reshare-prefix-write-lines Inv-loop μ-loop
 slice-reshare-prefix-write-lines c = let p = c .before .before .put-lines .ensures .put in omega (arith, p .within, put-length p)

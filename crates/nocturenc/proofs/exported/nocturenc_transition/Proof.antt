@@ -15,7 +15,9 @@ same-length : tie.Need-same-length
 same-length c = search needs
 
 returns : tie.Need-returns
-returns c = record { answered = c .packed-filled .ensures ∙ ap packedFilled (c .before .before .before .transition .ensures .answered); left-so = c .before .before .before .transition .ensures .left-so }
+returns c =
+    let f = c .before .before .before .transition .ensures in
+    record { answered = c .packed-filled .ensures ∙ ap packedFilled (f .answered); left-so = f .left-so }
 
 pub nocturenc-transition-spec : {M : Type 1} → statement M
 nocturenc-transition-spec =

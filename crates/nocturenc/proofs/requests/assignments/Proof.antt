@@ -13,10 +13,14 @@ enum-known-judged : tie.Need-enum-known-judged
 enum-known-judged c = search needs
 
 slice-aggregate-assignments-of : tie.Need-slice-aggregate-assignments-of
-slice-aggregate-assignments-of c = sym (order-as-long _ _ _ _ (c .before .before .before .before .judge-into .ensures) _ (c .before .before .judged .given .1) refl)
+slice-aggregate-assignments-of c =
+    let j = c .before .before in
+    sym (order-as-long _ _ _ _ (j .before .before .judge-into .ensures) _ (j .judged .given .1) refl)
 
 assignments-of-requires : tie.Need-assignments-of-requires
-assignments-of-requires c κs = order-stands _ _ _ _ (c .before .before .before .before .before .judge-into .ensures) _ (c .before .before .before .judged .given .1)
+assignments-of-requires c κs =
+    let j = c .before .before .before in
+    order-stands _ _ _ _ (j .before .before .judge-into .ensures) _ (j .judged .given .1)
 
 enum-known-judged-2 : tie.Need-enum-known-judged-2
 enum-known-judged-2 c = search needs
@@ -25,7 +29,9 @@ same-length : tie.Need-same-length
 same-length c = search needs
 
 returns : tie.Need-returns
-returns c = accepted-first _ _ (c .before .before .before .before .before .before .before .before .judge-into .ensures .answered) _ (c .before .before .before .before .before .before .judged .given .1) _ (c .before .before .assignments-of .ensures)
+returns c =
+    let j = c .before .before .before .before .before .before in
+    accepted-first _ _ (j .before .before .judge-into .ensures .answered) _ (j .judged .given .1) _ (c .before .before .assignments-of .ensures)
 
 returns-2 : tie.Need-returns-2
 returns-2 c = refused-first _ _ (c .before .before .before .judge-into .ensures .answered) _ (c .before .judged2 .given .1) _ _

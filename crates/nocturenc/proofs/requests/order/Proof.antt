@@ -13,7 +13,9 @@ enum-known-judged : tie.Need-enum-known-judged
 enum-known-judged c = search needs
 
 fill-words-requires : tie.Need-fill-words-requires
-fill-words-requires c κs = order-there _ _ _ _ (c .before .before .before .before .before .before .judge-into .ensures) _ (c .before .before .before .before .judged .given .1)
+fill-words-requires c κs =
+    let j = c .before .before .before .before in
+    order-there _ _ _ _ (j .before .before .judge-into .ensures) _ (j .judged .given .1)
 
 enum-known-judged-2 : tie.Need-enum-known-judged-2
 enum-known-judged-2 c = search needs
@@ -22,7 +24,9 @@ same-length : tie.Need-same-length
 same-length c = search needs
 
 returns : tie.Need-returns
-returns c = order-filled _ _ _ _ (c .before .before .before .before .before .before .before .before .before .judge-into .ensures) _ (c .before .before .before .before .before .before .before .judged .given .1) (c .before .before .fill-words .ensures)
+returns c =
+    let j = c .before .before .before .before .before .before .before in
+    order-filled _ _ _ _ (j .before .before .judge-into .ensures) _ (j .judged .given .1) (c .before .before .fill-words .ensures)
 
 returns-2 : tie.Need-returns-2
 returns-2 c = refused-first _ _ (c .before .before .before .judge-into .ensures .answered) _ (c .before .judged2 .given .1) _ _

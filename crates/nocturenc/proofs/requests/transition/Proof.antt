@@ -21,7 +21,9 @@ same-length : tie.Need-same-length
 same-length c = search needs
 
 returns : tie.Need-returns
-returns c = accepted-first _ _ (c .before .before .before .before .before .before .before .judge .ensures) _ (c .before .before .before .before .before .judged .given .1) _ (c .before .before .transition-of .ensures)
+returns c =
+    let j = c .before .before .before .before .before in
+    accepted-first _ _ (j .before .before .judge .ensures) _ (j .judged .given .1) _ (c .before .before .transition-of .ensures)
 
 returns-2 : tie.Need-returns-2
 returns-2 c = refused-first _ _ (c .before .before .before .judge .ensures) _ (c .before .judged2 .given .1) _ _

@@ -1,12 +1,11 @@
 -- Section 4 opens, and the search for an unfit entry stops where `first` does.
 use native.Mathlib.Nat.{zero-add}
 use native.Mathlib.Omega.{arith}
-use mathlib.Core.Path.{sym, _∙_}
+use mathlib.Core.Path.{sym, ap, _∙_}
 use denote.Ref.{now}
-use borrow.Author.Tests.{lt-ltb, le-ltb}
-use Rattle.table.specs.Sections.{strategyAt}
+use Rattle.table.specs.Sections.{halt, strategyAt}
 use Rattle.rows.proofs.Rules.{rest}
-use Rattle.table.proofs.Opened.{Opened, opened, entries-there}
+use Rattle.table.proofs.Opened.{Opened, opened, some-bad, none-bad, entries-there}
 use borrow.Author.Needs.{needs}
 use Rattle.table.proofs.Cursor.strategy.Statement.{statement}
 use Rattle.table.proofs.Cursor.strategy.Tie as tie
@@ -47,14 +46,15 @@ unfolding strategyAt
 returns-2 c =
     let s = c .before .before .before .before .before in
     let k = simp rest at (c .before .before .first-unfit .ensures) in
-    simp (c .refused .ensures, ← s .before .before .«open» .ensures, s .opened .given .1, ← k, lt-ltb _ _ (c .before .if1 .taken), zero-add)
+    c .refused .ensures ∙ ap (halt 9) (sym (zero-add _))
+    ∙ some-bad _ _ _ _ _ _ _ _ _ (s .before .before .«open» .ensures) (s .opened .given .1) k (c .before .if1 .taken)
 
 returns-3 : tie.Need-returns-3
 unfolding strategyAt
 returns-3 c =
     let s = c .before .before .before .before in
     let k = simp rest at (c .before .first-unfit .ensures) in
-    simp (← s .before .before .«open» .ensures, s .opened .given .1, ← k, le-ltb _ _ (c .if1 .left))
+    none-bad _ _ _ _ _ _ _ _ _ (s .before .before .«open» .ensures) (s .opened .given .1) k (c .if1 .left)
 
 pub strategy-spec : {M : Type 1} → statement M
 strategy-spec =

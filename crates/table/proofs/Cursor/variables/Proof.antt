@@ -2,10 +2,9 @@
 use native.Mathlib.Omega.{arith}
 use mathlib.Core.Path.{sym, _∙_}
 use denote.Ref.{now}
-use borrow.Author.Tests.{lt-ltb, le-ltb}
 use Rattle.table.specs.Sections.{variablesAt}
 use Rattle.rows.proofs.Rules.{rest}
-use Rattle.table.proofs.Opened.{Opened, opened, entries-there}
+use Rattle.table.proofs.Opened.{Opened, opened, some-bad, none-bad, entries-there}
 use borrow.Author.Needs.{needs}
 use Rattle.table.proofs.Cursor.variables.Statement.{statement}
 use Rattle.table.proofs.Cursor.variables.Tie as tie
@@ -52,14 +51,14 @@ unfolding variablesAt
 returns-2 c =
     let s = c .before .before .before .before .before in
     let k = simp rest at (c .before .before .first-fall .ensures) in
-    simp (c .refused .ensures, ← s .before .before .«open» .ensures, s .opened .given .1, ← k, lt-ltb _ _ (c .before .if1 .taken))
+    c .refused .ensures ∙ some-bad _ _ _ _ _ _ _ _ _ (s .before .before .«open» .ensures) (s .opened .given .1) k (c .before .if1 .taken)
 
 returns-3 : tie.Need-returns-3
 unfolding variablesAt
 returns-3 c =
     let s = c .before .before .before .before in
     let k = simp rest at (c .before .first-fall .ensures) in
-    simp (← s .before .before .«open» .ensures, s .opened .given .1, ← k, le-ltb _ _ (c .if1 .left))
+    none-bad _ _ _ _ _ _ _ _ _ (s .before .before .«open» .ensures) (s .opened .given .1) k (c .if1 .left)
 
 pub variables-spec : {M : Type 1} → statement M
 variables-spec =
