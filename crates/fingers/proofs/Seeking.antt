@@ -13,7 +13,7 @@ use Rattle.rows.specs.Rows.{kindOf, fromOf}
 use Rattle.net.specs.Prior.{isFrozen, prior}
 use Rattle.fingers.specs.Ready.{Ready}
 use Rattle.fingers.specs.Graph.{Graph, Next, free, outside, slots, Started}
-use Rattle.fingers.specs.Places.{packed, varOf, calls, startOf, AtStart, pending, soughtFrom, After, PlaceOf, Sought, passedOf, fingerOf, graphOf, Answered}
+use Rattle.fingers.specs.Places.{packed, varOf, calls, startOf, AtStart, pending, After, PlaceOf, Sought, passedOf, fingerOf, graphOf, Answered}
 use Rattle.fingers.proofs.Tests.{by, by-eq, never, at-set}
 use Rattle.fingers.proofs.Guards.{frozen-is}
 use Rattle.fingers.proofs.GoesOn.{chained, joins, some-star, opened}
