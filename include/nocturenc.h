@@ -50,7 +50,7 @@
  *
  * THE ANSWER. Bits 56 to 63 are the refusal number, 0 for accepted.
  *
- *     refused                bits 0 to 31: the place. Bits 32 to 47 are kept for a second number and are 0 now. The rest is 0.
+ *     refused                bits 0 to 31: the place. Bits 32 to 47 are kept for a second number. The rest is 0.
  *     accepted, judge        bits 0 to 15: the number of transitions; 16 to 28: S; 29 to 41: N; 42 to 52: V. The rest is 0.
  *     accepted, the others   the number of words or bytes filled.
  *

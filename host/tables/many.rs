@@ -30,7 +30,7 @@ fn with_keys(rng: &mut Rng, variables: &[usize], count: usize) -> Formula {
     ];
     rng.shuffle(&mut parts);
     let product = And(parts);
-    if count.is_multiple_of(factor) {
+    if count % factor == 0 {
         return product;
     }
     let mut arms = vec![product, with_keys(rng, variables, count % factor)];

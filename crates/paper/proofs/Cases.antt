@@ -8,12 +8,12 @@ use lib.Dec.{leb, ltb}
 use borrow.Author.Tests.{leb-true, ltb-true}
 use Rattle.paper.specs.Lists.{allOf}
 use Rattle.paper.specs.Formula.{Label, Variable, alike, Formula, labels, candidates, stars, Rising, WellFormed}
-use Rattle.paper.specs.Cases.{Case, answer, proposal, P, starred}
+use Rattle.paper.specs.Cases.{Case, answer, proposal, P, starredFormulas}
 use Rattle.paper.proofs.Bools.{and-left, and-right}
 use Rattle.paper.proofs.Lists.{of-any, of-all}
 use Rattle.paper.proofs.Labels.{alike-eq}
 
-pub starred-cases : map answer starred ≡ map (λ c. c .expected) starred
+pub starred-cases : map answer starredFormulas ≡ map (λ c. c .expected) starredFormulas
 starred-cases = refl
 
 -- the tests
@@ -45,11 +45,11 @@ module _ (#V : ℕ) where
             rw (alike-eq v w q) (ltb-true (w .0) #V (of-all isBelow (of-all (λ s. allOf isBelow (s .reads)) outside t) u));
       }
 
-pub starred-well-formed : (c : Case) → List·Memᴰ c starred → WellFormed (c .variables) (c .formula)
-starred-well-formed c t = of-well-formed (c .variables) (c .formula) (of-all (λ c. isWellFormed (c .variables) (c .formula)) {xs = starred} refl t)
+pub starred-well-formed : (c : Case) → List·Memᴰ c starredFormulas → WellFormed (c .variables) (c .formula)
+starred-well-formed c t = of-well-formed (c .variables) (c .formula) (of-all (λ c. isWellFormed (c .variables) (c .formula)) {xs = starredFormulas} refl t)
 
-pub starred-proposals-rise : (c : Case) → List·Memᴰ c starred → Rising 0 (proposal c)
-starred-proposals-rise c t = of-rises 0 (proposal c) (of-all (λ c. rises 0 (proposal c)) {xs = starred} refl t)
+pub starred-proposals-rise : (c : Case) → List·Memᴰ c starredFormulas → Rising 0 (proposal c)
+starred-proposals-rise c t = of-rises 0 (proposal c) (of-all (λ c. rises 0 (proposal c)) {xs = starredFormulas} refl t)
 
 pub listing-well-formed : WellFormed 2 P
 listing-well-formed = of-well-formed 2 P refl

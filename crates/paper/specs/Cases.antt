@@ -70,8 +70,8 @@ four = conjunction (ℓ 0)
     ⨾ only (disjunction (ℓ 12)
     (conjunction (ℓ 13) (assign 14 1 (0 ∷ []) ⨾ only (assign 16 3 [])) ⨾ only (conjunction (ℓ 18) (assign 19 3 (2 ∷ []) ⨾ only (assign 21 1 []))))))
 
-abbrev pub starred : List Case
-starred =
+abbrev pub starredFormulas : List Case
+starredFormulas =
     record {
       variables = 2;
       formula = P;

@@ -1,5 +1,5 @@
 -- What is proved of the definitions, as statements to be read without their proofs; proofs/Theorems.antt proves each.
--- The numbers are those of docs/PROMISES.md. Most ask for a formula as a table gives it (`WellFormed`); the labels of a
+-- docs/PROMISES.md lists them with their theorems. Most ask for a formula as a table gives it (`WellFormed`); the labels of a
 -- proposal A ascend in a table, and where that matters the statement says so.
 use Prim.Native.Nat.{ℕ, _<_, _≤_}
 use mathlib.Core.Bool.{Bool, true, false, _||_}
@@ -50,7 +50,7 @@ module _ (m : Meaning) (xs : List ℕ) (f : Formula) where
   abbrev pub union : List (List Label) → Label → Bool
   union bs l = anyOf (λ b. has b l) bs
 
-  -- the selection's branches may be any; where they are of one class of a minimal covering, so is the branch found
+  -- the selection's branches may be any; where they are of one class of a strategy, so is the branch found
   pub record Proposition8 : Type 0 where
     pub some-branch : (bs : List (List Label)) → ((b : List Label) → List·Memᴰ b bs → List·Memᴰ b (branches f)) → True m xs (sliceBy (union bs) f)
         → (b : List Label) × List·Memᴰ b (branches f) × True m xs (sliceBy (has b) f)

@@ -1,5 +1,6 @@
--- The judgement of a table's words: refusals 1 to 9 and 3 as the table's own checks find them, then 10 to 14 as document 001's
--- judgement of the formula that the words write; or what is known of an accepted table.
+-- The judgement of a table's words (document 01, "Refusal numbers, in the order of checks"): refusals 1, 2, 4 to 9 and 3 as the
+-- table's own checks find them, then 10 to 14 as document 001's judgement of the formula that the words write; or what is known
+-- of an accepted table.
 use Prim.Native.Nat.{ℕ, _*_, _<_, _≤_}
 use mathlib.Core.Bool.{Bool, true, cond, not}
 use mathlib.Core.Path.{_≡_}

@@ -5,7 +5,8 @@ use mathlib.Core.List.{List}
 use Rattle.paper.specs.Outcome.{OneAnswer}
 use Rattle.paper.proofs.Outcome.{by-equation}
 use Rattle.table.specs.declared.Cursor.{Cursor}
-use Rattle.table.specs.Sections.{start, openAt, checked}
+use Rattle.table.specs.declared.Step.the-variants.{Next}
+use Rattle.table.specs.Sections.{start, openAt, sections, answerOf, checked}
 
 pub check : (words : List ℕ) → OneAnswer (λ r. r ≡ checked words)
 check words = by-equation (checked words)
@@ -15,3 +16,10 @@ cursor-new = by-equation start
 
 pub cursor-open : (part : List ℕ) (c : Cursor) (low high width : ℕ) → OneAnswer (λ r. r ≡ openAt part c low high width)
 cursor-open part c low high width = by-equation (openAt part c low high width)
+
+-- within the crate
+pub all-sections : (words : List ℕ) → OneAnswer (λ r. r ≡ sections words)
+all-sections words = by-equation (sections words)
+
+pub laid-out : (c : Cursor) → OneAnswer (λ r. r ≡ answerOf (Next c))
+laid-out c = by-equation (answerOf (Next c))

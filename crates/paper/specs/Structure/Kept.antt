@@ -1,4 +1,4 @@
--- The labels that transition i keeps, worked out over the structure: quotient and remainder at a conjunction, whose
+-- The labels that transition i keeps (document 01, "Key" and "Numbering"), worked out over the structure: quotient and remainder at a conjunction, whose
 -- first child is the most significant; offset at a disjunction; every child where the only key is empty.
 use Prim.Native.Nat.{ℕ, _-_, _/_, _%_}
 use mathlib.Core.Bool.{cond}

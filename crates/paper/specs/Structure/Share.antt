@@ -1,4 +1,4 @@
--- Whether some branch holds given labels, worked out over the structure: they part among the children of a conjunction
+-- Whether some branch holds given labels (document 01, "Before"), worked out over the structure: they part among the children of a conjunction
 -- and meet in one child of any other join.
 use mathlib.Core.Bool.{Bool, _&&_, _||_}
 use mathlib.Core.List.{List, [], _∷_, _++_, map}
