@@ -3,8 +3,9 @@ use Prim.Native.Nat.{ℕ, suc, _<_, _≤_}
 use native.Mathlib.Omega.{arith}
 use borrow.Author.Tests.{le-ltb, le-leb, lt-leb, eq-eqb}
 use mathlib.Core.Path.{_≡_, refl, sym, ap, ap₂, subst, _∙_}
-use mathlib.Core.Bool.{true}
+use mathlib.Core.Bool.{Bool, true, false, cond}
 use mathlib.Core.List.{List, [], map, List·Memᴰ, List·Memᴰ·head, List·Memᴰ·tail, Memᴰ·map}
+use lib.Dec.{eqb}
 use lib.ListN.{length, getD, length-map}
 use Rattle.paper.specs.declared.Label.{Label}
 use Rattle.paper.specs.Formula.{ℓ, has, Formula, labels}
@@ -13,7 +14,7 @@ use Rattle.paper.specs.Branch.{branches}
 use Rattle.paper.specs.Before.{before}
 use Rattle.paper.specs.Order.{OrderOf}
 use Rattle.paper.specs.Strategy.{Strategy}
-use Rattle.paper.specs.Transition.{key, sameKey, class, keys, transition}
+use Rattle.paper.specs.Transition.{key, sameKey, class, isKept, keys, transition}
 use Rattle.paper.specs.Meaning.{True}
 use Rattle.paper.proofs.Bools.{same-answer}
 use Rattle.paper.proofs.Lists.{of-map, of-those, sub-those}
@@ -27,20 +28,23 @@ use Rattle.table.specs.declared.Checked.{Checked}
 use Rattle.table.specs.declared.Checked.the-variants.{Sound, Refused}
 use Rattle.table.specs.Sections.{checked, chosenIn}
 use Rattle.written.specs.Tables.{Understood, formulaIn}
+use Rattle.net.proofs.Spans.{labels-between}
 use Rattle.strategy.specs.declared.Accepted.{Accepted}
 use Rattle.strategy.specs.declared.Judged.{Judged}
 use Rattle.strategy.specs.declared.Judged.the-variants as judged
 use Rattle.strategy.specs.Judge.{judgedOf, proposalIn, acceptedWith}
 use Rattle.strategy.proofs.Exactly.{accepted-exactly}
 use Rattle.strategy.proofs.Placed.{order-length}
+use Rattle.transitions.proofs.MarkedBytes.{bytes-at}
 use Rattle.transitions.proofs.Words.{those-same, as-many-ordered}
 use Rattle.answers.specs.declared.Counts.{Counts}
 use Rattle.answers.specs.declared.Answer.the-variants as answer
 use Rattle.answers.specs.Requests.{judgeOf, judgeAnswer, Outcome, refuses, fills, unlessShort, unlessAbsent, outcomeOf}
 use Rattle.answers.specs.Requests.{orderOutcome, ofTransition, transitionOutcome, assignmentsOutcome}
 use Rattle.answers.specs.Requests.{reported, keyOf, markOf, marksOf, assignedOf}
-use Rattle.demands.specs.Demands.{RefusalWritesNothing, keysIn, JudgedExactly, TransitionsListed, CarriedOutInOrder, TrueByTransitions}
+use Rattle.demands.specs.Demands.{RefusalWritesNothing, keysIn, JudgedExactly, TransitionsListed, CarriedOutInOrder, TrueByTransitions, AnyWordsJudged}
 use Rattle.answers.proofs.Accepted.{is-sound, is-understood, is-strategy, count-is}
+use Rattle.demands.proofs.Slices.{slice-alike}
 
 -- Demand 1
 pub refusal-writes-nothing : RefusalWritesNothing
@@ -94,6 +98,23 @@ module _ (words : List ℕ) (l : Layout) (sound : checked words ≡ Sound l) whe
     only-so = λ c e. sym e ∙ ap judgeAnswer (is-accepted (judgedOf words) c refl e);
   }
 
+-- accepted words are sound
+sound-too : (words : List ℕ) (c : Counts) (j : Judged) → judgedOf words ≡ j → judgeAnswer j ≡ answer.Accepted c → (l : Layout) × (checked words ≡ Sound l)
+sound-too words c (judged.Accepted a) q e = (a .layout, is-sound words a q)
+sound-too words c (judged.Refused x) q e = let z : _≡_ {A = ℕ} 0 1 = cc in absurd (omega arith)
+
+pub any-words-judged : (words : List ℕ) (c : Counts) → AnyWordsJudged words c
+unfolding judgeOf
+any-words-judged words c = (
+  λ e.
+      let (l, sound) = sound-too words c (judgedOf words) refl e in
+      let exactly = judged-exactly words l sound in
+      let whole = exactly .only-so c e in
+      let (strategy, few) = exactly .accepted .0 (e ∙ whole) in
+      (l, sound, strategy, few, whole),
+  λ (l, sound, strategy, few, whole). judged-exactly words l sound .accepted .1 (strategy, few) ∙ sym whole,
+)
+
 -- Of accepted words: demand 2, the transitions; and demand 3, first half.
 module _ (words : List ℕ) (a : Accepted) (e : judgedOf words ≡ judged.Accepted a) where
   abbrev l : Layout
@@ -133,6 +154,17 @@ module _ (words : List ℕ) (a : Accepted) (e : judgedOf words ≡ judged.Accept
   enough : (room : ℕ) (ws : List ℕ) → length ws ≤ room → unlessShort room ws ≡ fills ws
   enough room ws h = rw (le-ltb room (length ws) h)
 
+  -- the byte of a label of the formula is 1 if transition k keeps it, else not
+  byte-says : (k : ℕ) (i : Label) → List·Memᴰ i (labels f) → eqb (getD (marksOf words l k) (i .0) 0) 1 ≡ isKept f A (keyOf words l k) i
+  byte-says k i t = rw (known .labels-are, bytes-at (isKept f A (keyOf words l k)) (l .rows) (i .0) below) (go (isKept f A (keyOf words l k) i))
+    where
+      below : i .0 < l .rows
+      below = let (from, to) = labels-between 0 (l .rows) i (mem-has (rw (known .labels-are) at t)) in omega arith
+
+      go : (b : Bool) → eqb (cond b 1 0) 1 ≡ b
+      go true = refl
+      go false = refl
+
   pub transitions-listed : TransitionsListed words l
   unfolding outcomeOf ofTransition
   transitions-listed = record {
@@ -141,6 +173,7 @@ module _ (words : List ℕ) (a : Accepted) (e : judgedOf words ≡ judged.Accept
         ap (λ j. outcomeOf j (transitionOutcome words k room)) e
         ∙ present k (unlessShort room (marksOf words l k)) h
         ∙ enough room (marksOf words l k) (omega (arith, length-map (labels f) (markOf words l k), known .size-is));
+    sliced = λ k h. slice-alike _ (isKept f A (keyOf words l k)) f (byte-says k);
     no-more = λ k room h. ap (λ j. outcomeOf j (transitionOutcome words k room)) e ∙ absent k (unlessShort room (marksOf words l k)) h;
   }
 

@@ -1,21 +1,24 @@
--- The mission's demands over any words: what the requests answer (specs/Requests.antt), in the terms of document 001;
--- proofs/Demands.antt proves them.
+-- The mission's demands over any words: what the requests answer (crates/answers/specs/Requests.antt), in the terms of document
+-- 001; proofs/Demands.antt proves them.
 use Prim.Native.Nat.{ℕ, _<_, _≤_}
 use mathlib.Core.Path.{_≡_}
 use mathlib.Core.Logic.{_↔_}
 use mathlib.Core.List.{List, map, List·Memᴰ}
-use lib.ListN.{length}
+use lib.Dec.{eqb}
+use lib.ListN.{length, getD}
 use Rattle.paper.specs.declared.Label.{Label}
 use Rattle.paper.specs.Lists.{those}
 use Rattle.paper.specs.Formula.{has}
 use Rattle.paper.specs.Branch.{branches}
 use Rattle.paper.specs.Strategy.{Strategy}
-use Rattle.paper.specs.Transition.{class, keys, transition}
+use Rattle.paper.specs.Transition.{sliceBy, class, keys, transition}
 use Rattle.paper.specs.Meaning.{Meaning, True}
 use Rattle.paper.specs.Carry.{Carried, unset}
 use Rattle.paper.specs.Statements.{KeysAreListed}
 use Rattle.table.specs.declared.Layout.{Layout}
 use Rattle.table.specs.declared.Refusal.{Refusal}
+use Rattle.table.specs.declared.Checked.the-variants.{Sound}
+use Rattle.table.specs.Sections.{checked}
 use Rattle.written.specs.Tables.{formulaIn}
 use Rattle.strategy.specs.Judge.{proposalIn}
 use Rattle.answers.specs.declared.Counts.{Counts}
@@ -43,11 +46,13 @@ module _ (words : List ℕ) (l : Layout) where
     pub accepted : (judgeOf words ≡ acceptance l (length keysIn)) ↔ (Strategy (l .variables) (formulaIn words l) (proposalIn words l) × (length keysIn ≤ 65535))
     pub only-so : (c : Counts) → judgeOf words ≡ answer.Accepted c → answer.Accepted c ≡ acceptance l (length keysIn)
 
-  -- Demand 2, of accepted words: for each number below the count one transition, that of Definition 5, in the order of the keys,
-  -- which are the branches' keys, all, each once; and no transition more.
+  -- Demand 2, of accepted words: for each number below the count one transition, in the order of the keys, which are the branches'
+  -- keys, all, each once; the formula sliced by the labels whose byte is 1 is that of Definition 5; and no transition more.
   pub record TransitionsListed : Type 0 where
     pub listed : KeysAreListed (formulaIn words l) (proposalIn words l)
     pub each : (k room : ℕ) → k < length keysIn → l .rows ≤ room → transitionOf words k room ≡ fills (marksOf words l k)
+    pub sliced : (k : ℕ) → k < length keysIn
+        → sliceBy (λ i. eqb (getD (marksOf words l k) (i .0) 0) 1) (formulaIn words l) ≡ transition (formulaIn words l) (proposalIn words l) (keyOf words l k)
     pub no-more : (k room : ℕ) → length keysIn ≤ k → transitionOf words k room ≡ refuses 15 (length keysIn)
 
   -- Demand 3, first half, of accepted words: the order request gives the reported order; the chosen assignments of any branch can
@@ -64,3 +69,11 @@ module _ (words : List ℕ) (l : Layout) where
   abbrev pub TrueByTransitions : Type 0
   TrueByTransitions = (m : Meaning) (xs : List ℕ) → True m xs (formulaIn words l)
       ↔ ((k : ℕ) × (k < length keysIn) × True m xs (transition (formulaIn words l) (proposalIn words l) (keyOf words l k)))
+
+-- Demand 2, of any words: accepted with the counts c exactly if they are sound, the proposal is an assignment strategy with at most
+-- 65,535 transitions, and c are V, N, S and the number of transitions.
+abbrev pub AnyWordsJudged : List ℕ → Counts → Type 0
+AnyWordsJudged words c =
+    (judgeOf words ≡ answer.Accepted c)
+    ↔ ((l : Layout) × (checked words ≡ Sound l) × Strategy (l .variables) (formulaIn words l) (proposalIn words l)
+    × (length (keysIn words l) ≤ 65535) × (answer.Accepted c ≡ acceptance l (length (keysIn words l))))

@@ -1,6 +1,6 @@
--- An answer packed in one 64-bit number, for C. The top byte is the refusal number, 0 for accepted. Refused: the place in the
--- low 32 bits. Accepted judge: the transition count from bit 0, S from bit 16, N from bit 29, V from bit 42. Accepted others: the
--- number of words or bytes filled.
+-- An answer packed in one 64-bit number, for C (document 01: "All four can be called from the workshop's C table browser"). The
+-- top byte is the refusal number, 0 for accepted. Refused: the place in the low 32 bits. Accepted judge: the transition count
+-- from bit 0, S from bit 16, N from bit 29, V from bit 42. Accepted others: the number of words or bytes filled.
 use Prim.Native.Nat.{ℕ, _+_, _*_, _/_, _%_, _^_}
 use mathlib.Core.List.{List}
 use mathlib.Core.Path.{_≡_}
@@ -8,6 +8,7 @@ use Rattle.table.specs.declared.Refusal.{Refusal}
 use Rattle.answers.specs.declared.Counts.{Counts}
 use Rattle.answers.specs.declared.Answer.{Answer}
 use Rattle.answers.specs.declared.Answer.the-variants as answer
+use Rattle.answers.specs.declared.Length.{Length}
 use Rattle.answers.specs.declared.Filled.{Filled}
 use Rattle.answers.specs.declared.Filled.the-variants as filled
 use Rattle.answers.specs.Requests.{Outcome, filledOf, after}
@@ -31,9 +32,11 @@ pub record FillsPacked (o : Outcome) (lent left : List ℕ) (n : ℕ) : Type 0 w
   pub answered : n ≡ packedFilled (filledOf o)
   pub left-so : left ≡ after o lent
 
--- what C reads from an answer: the refusal number and its place; the counts, where it is accepted
+-- what C reads from an answer: the refusal number and its place, with 0 in the bits between; the counts, where it is accepted;
+-- the number of words or bytes filled, where a request filled them
 pub record ReadRefusal (r : Refusal) (n : ℕ) : Type 0 where
   pub number-is : n / 2 ^ 56 ≡ r .number
+  pub between : n / 2 ^ 32 % 2 ^ 24 ≡ 0
   pub place-is : n % 2 ^ 32 ≡ r .place
 
 pub record ReadCounts (c : Counts) (n : ℕ) : Type 0 where
@@ -42,3 +45,7 @@ pub record ReadCounts (c : Counts) (n : ℕ) : Type 0 where
   pub rows-are : n / 2 ^ 29 % 2 ^ 13 ≡ c .rows
   pub chosen-are : n / 2 ^ 16 % 2 ^ 13 ≡ c .chosen
   pub transitions-are : n % 2 ^ 16 ≡ c .transitions
+
+pub record ReadFilled (l : Length) (n : ℕ) : Type 0 where
+  pub no-refusal : n / 2 ^ 56 ≡ 0
+  pub count-is : n ≡ l .count
