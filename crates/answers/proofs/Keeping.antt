@@ -27,9 +27,9 @@ use Rattle.table.specs.Sections.{rowsIn, readsIn, chosenIn}
 use Rattle.rows.proofs.Rules.{rest}
 use Rattle.written.proofs.Words.{map-back, word-mem}
 use Rattle.rows.specs.Walk.{Walkable}
-use Rattle.counting.specs.declared.Distinct.{Distinct}
-use Rattle.counting.specs.Marks.{Marked, AllBelow}
-use Rattle.counting.specs.Keys.{keysAt}
+use Rattle.keys.specs.declared.Distinct.{Distinct}
+use Rattle.marks.specs.Marks.{Marked, AllBelow}
+use Rattle.keys.specs.Keys.{keysAt}
 use Rattle.strategy.specs.declared.Accepted.{Accepted}
 use Rattle.strategy.specs.Judge.{proposalIn}
 use Rattle.strategy.proofs.Held.{parts-of, Reached, reached, walkable}

@@ -7,9 +7,9 @@ use lib.ListN.{length, take, drop, length-map, length-take}
 use lib.Seq.{take-all, take-at, length-take-le}
 use borrow.Author.Tests.{eq-eqb, ne-eqb}
 use Rattle.paper.specs.Formula.{ℓ}
-use Rattle.counting.specs.declared.Distinct.{Distinct}
-use Rattle.counting.specs.Marks.{Marked}
-use Rattle.counting.specs.Keys.{keysAt}
+use Rattle.keys.specs.declared.Distinct.{Distinct}
+use Rattle.marks.specs.Marks.{Marked}
+use Rattle.keys.specs.Keys.{keysAt}
 use Rattle.strategy.specs.declared.Accepted.{Accepted}
 use Rattle.strategy.specs.declared.Judged.{Judged}
 use Rattle.strategy.specs.declared.Judged.the-variants as judged

@@ -16,8 +16,8 @@ use Rattle.paper.specs.Transition.{isKept}
 use Rattle.table.specs.declared.Layout.{Layout}
 use Rattle.written.specs.Tables.{formulaIn}
 use Rattle.written.specs.Written.{labelsOn}
-use Rattle.counting.specs.declared.Distinct.{Distinct}
-use Rattle.counting.specs.Marks.{Marked}
+use Rattle.keys.specs.declared.Distinct.{Distinct}
+use Rattle.marks.specs.Marks.{Marked}
 use Rattle.strategy.specs.declared.Accepted.{Accepted}
 use Rattle.strategy.specs.Judge.{proposalIn}
 use Rattle.transitions.specs.Kept.{Keepable, MarkedKept}

@@ -5,9 +5,9 @@ use mathlib.Core.Path.{_≡_}
 use lib.ListN.{length, take}
 use Rattle.table.specs.declared.Layout.{Layout}
 use Rattle.table.specs.Sections.{rowsIn}
-use Rattle.counting.specs.declared.Distinct.{Distinct}
-use Rattle.counting.specs.Marks.{Marked}
-use Rattle.counting.specs.Keys.{keysAt}
+use Rattle.keys.specs.declared.Distinct.{Distinct}
+use Rattle.marks.specs.Marks.{Marked}
+use Rattle.keys.specs.Keys.{keysAt}
 use Rattle.strategy.specs.declared.Accepted.{Accepted}
 use Rattle.strategy.specs.declared.Judged.{Judged}
 use Rattle.strategy.specs.declared.Judged.the-variants as judged

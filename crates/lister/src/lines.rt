@@ -5,7 +5,7 @@ ghost use lib.ListN.{length, take};
 ghost use Rattle.listing.specs.Placed.{Put};
 ghost use Rattle.lister.specs.Listing.{headOf, lineOf};
 ghost use Rattle.lister.specs.Steps.{Headed, Listable, longest, LinesPut};
-use counting::Distinct;
+use keys::Distinct;
 use listing::put_accepted;
 use listing::put_order;
 use listing::put_transition;

@@ -8,10 +8,10 @@ ghost use Rattle.lister.specs.Listing.{wordsOf, judgedBytes, linesFrom, 
 ghost use Rattle.lister.specs.Steps.{Accepts};
 use crate::lines::put_head;
 use crate::lines::put_lines;
-use counting::keys::keys_of;
-use counting::marks::marks_of;
+use keys::keys_of;
 use libc::STDOUT_FILENO;
 use listing::put_refused;
+use marks::marks_of;
 use paper::Label;
 use strategy::Accepted;
 use strategy::Judged;

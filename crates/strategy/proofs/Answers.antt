@@ -33,13 +33,13 @@ use Rattle.entries.specs.First.{first}
 use Rattle.table.specs.Sections.{layout, checked, rowsIn, readsIn, chosenIn}
 use Rattle.written.specs.Tables.{formulaIn}
 use Rattle.written.proofs.Tables.{understood}
-use Rattle.counting.specs.declared.Covering.the-variants.{Missed, Doubled}
-use Rattle.counting.specs.declared.Covering.the-variants as Covering
-use Rattle.counting.specs.Marks.{Marked}
-use Rattle.counting.specs.Words.{coveringOf, judgementOf}
-use Rattle.counting.specs.Keys.{total, keysAt}
-use Rattle.counting.proofs.CoveringSays.{covering-says, gives-covered}
-use Rattle.counting.proofs.KeyNumbers.{keys-past-limit, keys-number}
+use Rattle.cover.specs.declared.Covering.the-variants.{Missed, Doubled}
+use Rattle.cover.specs.declared.Covering.the-variants as Covering
+use Rattle.marks.specs.Marks.{Marked}
+use Rattle.cover.specs.Words.{coveringOf, judgementOf}
+use Rattle.keys.specs.Keys.{total, keysAt}
+use Rattle.cover.proofs.CoveringSays.{covering-says, gives-covered}
+use Rattle.keys.proofs.KeyNumbers.{keys-past-limit, keys-number}
 use Rattle.ordering.specs.Prior.{lowestCyclic, written, Filled}
 use Rattle.strategy.specs.declared.Judged.{Judged}
 use Rattle.strategy.specs.declared.Judged.the-variants as answer

@@ -27,7 +27,7 @@ use Rattle.rows.proofs.Shaped.{shaped}
 use Rattle.rows.proofs.Taken.{taken-there}
 use Rattle.table.proofs.Laid.{accepted}
 use Rattle.written.proofs.Tables.{understood}
-use Rattle.counting.specs.Marks.{AllBelow}
+use Rattle.marks.specs.Marks.{AllBelow}
 use Rattle.net.specs.Net.{Chosen, Net}
 use Rattle.net.proofs.Sound.{chosen-of}
 use Rattle.net.proofs.Spans.{labels-count, labels-between}

@@ -15,8 +15,8 @@ use Rattle.rows.specs.Formula.{starAt, childrenAt, nodeAt, formulaAt}
 use Rattle.rows.specs.Walk.{valueAt}
 use Rattle.written.specs.Example.{P}
 use Rattle.rows.proofs.Shaped.{shaped}
-use Rattle.counting.specs.Marks.{isMarked}
-use Rattle.counting.specs.Keys.{joinKeys, total, keysAt}
+use Rattle.marks.specs.Marks.{isMarked}
+use Rattle.keys.specs.Keys.{joinKeys, total, keysAt}
 use Rattle.transitions.specs.Kept.{Keepable, bytesOf}
 use Rattle.transitions.specs.Assigned.{isKeptIn, keptOf, Fillable}
 

@@ -12,8 +12,8 @@ use Rattle.paper.specs.Structure.KeyCount.{keyCountOf, numberOf, numberOfEach}
 use Rattle.paper.specs.Structure.Kept.{keptAt, keptEach, keptAny, keptAll}
 use Rattle.paper.proofs.Readings.{AtLeaves, AtLeavesOf}
 use Rattle.rows.specs.Formula.{formulaAt}
-use Rattle.counting.specs.declared.Distinct.{Distinct}
-use Rattle.counting.proofs.LeafLabels.{leaves-hold}
+use Rattle.keys.specs.declared.Distinct.{Distinct}
+use Rattle.keys.proofs.LeafLabels.{leaves-hold}
 use Rattle.transitions.specs.Kept.{markedBy, Keepable, KeptAfter, MarkedKept}
 use Rattle.transitions.proofs.MarkedBytes.{AllLabels, no-label, _and_, marked-bytes, marked-front}
 

@@ -19,11 +19,11 @@ use Rattle.rows.specs.Formula.{starAt, childrenAt, nodeAt, formulaAt}
 use Rattle.rows.specs.Walk.{expressions, firstUnder, expressionsAt, firstAt, Walkable}
 use Rattle.rows.proofs.Forms.{by-form}
 use Rattle.rows.proofs.Walks.{Along, along-under, along-on, along-next}
-use Rattle.counting.specs.declared.Distinct.{Distinct}
-use Rattle.counting.specs.Marks.{Marked}
-use Rattle.counting.specs.Keys.{total, keysAt}
-use Rattle.counting.proofs.KeyNumbers.{keys-number, keys-empty}
-use Rattle.counting.proofs.KeysUnder.{productOf, AllWithin, within-more, factors-within, numbersFrom, totalsFrom, keys-multiply, keys-add, keys-within, keys-pass}
+use Rattle.keys.specs.declared.Distinct.{Distinct}
+use Rattle.marks.specs.Marks.{Marked}
+use Rattle.keys.specs.Keys.{total, keysAt}
+use Rattle.keys.proofs.KeyNumbers.{keys-number, keys-empty}
+use Rattle.keys.proofs.KeysUnder.{productOf, AllWithin, within-more, factors-within, numbersFrom, totalsFrom, keys-multiply, keys-add, keys-within, keys-pass}
 use Rattle.transitions.specs.declared.Shares.{Shares}
 use Rattle.transitions.specs.declared.Shares.the-variants.{Each, All, One, Done}
 use Rattle.transitions.specs.declared.Turn.{Turn}

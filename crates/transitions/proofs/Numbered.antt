@@ -25,10 +25,10 @@ use Rattle.paper.proofs.Numbers.{kept-sub, numbers-say}
 use Rattle.paper.proofs.Keys.{keys-have-length}
 use Rattle.rows.specs.Formula.{formulaAt}
 use Rattle.rows.specs.Walk.{Walkable}
-use Rattle.counting.specs.declared.Distinct.{Distinct}
-use Rattle.counting.specs.Marks.{Marked}
-use Rattle.counting.specs.Keys.{total, keysAt}
-use Rattle.counting.proofs.KeyNumbers.{keys-number-within}
+use Rattle.keys.specs.declared.Distinct.{Distinct}
+use Rattle.marks.specs.Marks.{Marked}
+use Rattle.keys.specs.Keys.{total, keysAt}
+use Rattle.keys.proofs.KeyNumbers.{keys-number-within}
 use Rattle.transitions.specs.Kept.{Keepable}
 use Rattle.transitions.specs.Assigned.{keptOf}
 use Rattle.transitions.specs.Statements.{kthKey, kthBytes, TransitionSays}

@@ -17,7 +17,7 @@ use Rattle.paper.proofs.Outcome.{by-equation}
 use Rattle.paper.proofs.Labels.{has-those, those-has}
 use Rattle.written.specs.Written.{labelsOn}
 use Rattle.rows.proofs.Meets.{lt-or-le}
-use Rattle.counting.specs.Marks.{isMarked, Marked}
+use Rattle.marks.specs.Marks.{isMarked, Marked}
 use Rattle.transitions.specs.Kept.{KeptAfter, MarkedKept}
 use Rattle.transitions.specs.Assigned.{keptOf}
 

@@ -8,7 +8,7 @@ use mathlib.Core.Bool.{Bool, true, false, false≢true}
 use mathlib.Core.List.{List, _∷_}
 use lib.Dec.{eqb, ltb}
 use borrow.Author.Tests.{ltb-true, ltb-false, eqb-false, not-true}
-use Rattle.counting.proofs.KeysUnder.{productOf, sumOf, AllWithin, factors-some}
+use Rattle.keys.proofs.KeysUnder.{productOf, sumOf, AllWithin, factors-some}
 use Rattle.transitions.specs.declared.Shares.{Shares}
 use Rattle.transitions.specs.declared.Shares.the-variants.{Each, All, One, Done}
 use Rattle.transitions.specs.Kept.{CanTake, oneTurn, turnOf}

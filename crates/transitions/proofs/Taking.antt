@@ -15,10 +15,10 @@ use Rattle.rows.specs.Formula.{formulaAt}
 use Rattle.rows.specs.Walk.{expressionsAt, firstAt, Walkable}
 use Rattle.rows.proofs.Rules.{number-of}
 use Rattle.rows.proofs.Walks.{Along, along-under, along-on, along-next}
-use Rattle.counting.specs.declared.Distinct.{Distinct}
-use Rattle.counting.specs.Marks.{Marked}
-use Rattle.counting.specs.Keys.{total, keysAt}
-use Rattle.counting.proofs.KeysUnder.{totalsFrom, numbers-step}
+use Rattle.keys.specs.declared.Distinct.{Distinct}
+use Rattle.marks.specs.Marks.{Marked}
+use Rattle.keys.specs.Keys.{total, keysAt}
+use Rattle.keys.proofs.KeysUnder.{totalsFrom, numbers-step}
 use Rattle.transitions.specs.declared.Shares.{Shares}
 use Rattle.transitions.specs.declared.Shares.the-variants.{Each, All, One, Done}
 use Rattle.transitions.specs.declared.Turn.{Turn}

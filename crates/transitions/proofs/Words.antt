@@ -14,7 +14,7 @@ use Rattle.paper.specs.Order.{Once, OrderOf}
 use Rattle.paper.proofs.Bools.{or-right, not-so}
 use Rattle.paper.proofs.Lists.{those-lt}
 use Rattle.paper.proofs.Labels.{same-refl, same-eq, has-mem, has-head, has-those, those-has, rising-above}
-use Rattle.counting.specs.Marks.{AllBelow}
+use Rattle.marks.specs.Marks.{AllBelow}
 use Rattle.transitions.specs.Kept.{bytesOf}
 use Rattle.transitions.specs.Assigned.{isKeptIn, keptOf}
 use Rattle.transitions.proofs.MarkedBytes.{bytes-at}

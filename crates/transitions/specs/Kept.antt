@@ -12,9 +12,9 @@ use Rattle.paper.specs.Structure.Kept.{keptAt}
 use Rattle.rows.specs.Formula.{formulaAt}
 use Rattle.rows.specs.Walk.{Walkable}
 use Rattle.written.specs.Written.{labelsOn}
-use Rattle.counting.specs.declared.Distinct.{Distinct}
-use Rattle.counting.specs.Marks.{Marked}
-use Rattle.counting.specs.Keys.{total, keysAt}
+use Rattle.keys.specs.declared.Distinct.{Distinct}
+use Rattle.marks.specs.Marks.{Marked}
+use Rattle.keys.specs.Keys.{total, keysAt}
 use Rattle.transitions.specs.declared.Shares.{Shares}
 use Rattle.transitions.specs.declared.Shares.the-variants.{Each, All, One, Done}
 use Rattle.transitions.specs.declared.Turn.{Turn}

@@ -11,7 +11,7 @@ use Rattle.paper.specs.Formula.{ℓ, has, Formula}
 use Rattle.paper.specs.Order.{OrderOf}
 use Rattle.paper.specs.Transition.{isKept, class, keys}
 use Rattle.paper.specs.Structure.Kept.{keptAt}
-use Rattle.counting.specs.Marks.{AllBelow}
+use Rattle.marks.specs.Marks.{AllBelow}
 use Rattle.transitions.specs.Kept.{bytesOf}
 use Rattle.transitions.specs.Assigned.{keptOf}
 

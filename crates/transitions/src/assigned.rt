@@ -4,7 +4,7 @@ ghost use mathlib.Core.Bool.{true, cond};
 ghost use mathlib.Core.List.{_++_};
 ghost use Prim.Native.Nat.{_+_, _<_};
 ghost use lib.ListN.{length, set, take, drop};
-ghost use Rattle.counting.specs.Marks.{AllBelow};
+ghost use Rattle.marks.specs.Marks.{AllBelow};
 ghost use Rattle.transitions.specs.Assigned.{isKeptIn, keptOf, Fillable};
 
 // Whether a label is kept.

@@ -13,8 +13,8 @@ use Rattle.transitions.proofs.Taking.{kept-off, set-with-none, set-alon
 use Rattle.transitions.proofs.kept.keep.Reads as keep
 use Rattle.transitions.proofs.kept.keep.Kinds as kinds
 use Rattle.transitions.proofs.kept.+keep.Lts-keep as lts
-use Rattle.counting.proofs.keys.keys_of.Reads as keys-of
-use Rattle.counting.proofs.keys.total_of.Reads as total-of
+use Rattle.keys.proofs.keys_of.Reads as keys-of
+use Rattle.keys.proofs.total_of.Reads as total-of
 use Rattle.rows.proofs.end_of.Reads as end-of
 use Rattle.rows.proofs.kind_of.Reads as kind-of
 use Rattle.rows.proofs.walk.expressions_of.Reads as expressions-of

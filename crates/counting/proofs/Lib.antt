@@ -1,9 +1,0 @@
-pub mod Marking
-pub mod Bits
-pub mod Blocks
-pub mod CoveringSays
-pub mod CoveringExample
-pub mod LeafLabels
-pub mod KeyNumbers
-pub mod KeysUnder
-pub mod OneOutcome

@@ -1,3 +1,0 @@
-pub mod Marks
-pub mod Words
-pub mod Keys

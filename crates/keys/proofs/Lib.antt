@@ -1,0 +1,4 @@
+pub mod LeafLabels
+pub mod KeyNumbers
+pub mod KeysUnder
+pub mod OneOutcome
