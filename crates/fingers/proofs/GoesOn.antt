@@ -15,10 +15,10 @@ use Rattle.paper.proofs.Bools.{both, and-left, and-right, or-left, or-right, or
 use Rattle.entries.specs.First.{first}
 use Rattle.rows.specs.Rows.{kindOf, argOf, fromOf}
 use Rattle.entries.proofs.First.{first-le, first-at, first-below}
-use Rattle.net.specs.Prior.{starReads, guardOf}
+use Rattle.net.specs.Prior.{starReads, around, guardOf, variableOf}
 use Rattle.net.specs.Net.{firstWith, guardsFrom, nextsFrom, firstsFrom}
 use Rattle.fingers.specs.Ready.{Ready}
-use Rattle.fingers.specs.Places.{stopOf, readsAny, around, packed, varOf, pending, ahead, placeAfter, Place, After}
+use Rattle.fingers.specs.Places.{stopOf, readsAny, packed, pending, ahead, placeAfter, Place, After}
 use Rattle.fingers.proofs.Tests.{by-eq, by-lt, never}
 use Rattle.fingers.proofs.Guards.{Innermost, no-guard, the-guard}
 
@@ -71,33 +71,33 @@ star-reads rows reads s v = let e : stopOf rows s - fromOf rows s ≡ argOf rows
 module _ (rows reads chosen : List ℕ) where
   -- the parts of what lies from a place on
   pub data Part (s r k i : ℕ) : Type 0 where
-    chained : k < length chosen → varOf rows chosen k ≡ varOf rows chosen i → k ≤ i → Part s r k i
-    readLater : readsAny reads r (stopOf rows s) (varOf rows chosen i) ≡ true → Part s r k i
-    readAround : around rows reads s (varOf rows chosen i) ≡ true → Part s r k i
+    chained : k < length chosen → variableOf rows chosen k ≡ variableOf rows chosen i → k ≤ i → Part s r k i
+    readLater : readsAny reads r (stopOf rows s) (variableOf rows chosen i) ≡ true → Part s r k i
+    readAround : around rows reads s (variableOf rows chosen i) ≡ true → Part s r k i
 
   pub parts : (s r k i : ℕ) → pending rows reads chosen s r k i ≡ true → Part s r k i
   unfolding pending
   parts s r k i e =
-      pick (or-cases (ltb k (length chosen) && (eqb (varOf rows chosen k) (varOf rows chosen i) && leb k i)) _ (and-right (not (eqb s 0)) _ e))
+      pick (or-cases (ltb k (length chosen) && (eqb (variableOf rows chosen k) (variableOf rows chosen i) && leb k i)) _ (and-right (not (eqb s 0)) _ e))
       (λ q. let z = and-right (ltb k (length chosen)) _ q in
       chained (ltb-true k (length chosen) (and-left (ltb k (length chosen)) _ q))
-      (eqb-true _ _ (and-left (eqb (varOf rows chosen k) (varOf rows chosen i)) _ z))
-      (leb-true k i (and-right (eqb (varOf rows chosen k) (varOf rows chosen i)) _ z)))
-      (λ q. pick (or-cases (readsAny reads r (stopOf rows s) (varOf rows chosen i)) _ q) readLater readAround)
+      (eqb-true _ _ (and-left (eqb (variableOf rows chosen k) (variableOf rows chosen i)) _ z))
+      (leb-true k i (and-right (eqb (variableOf rows chosen k) (variableOf rows chosen i)) _ z)))
+      (λ q. pick (or-cases (readsAny reads r (stopOf rows s) (variableOf rows chosen i)) _ q) readLater readAround)
 
   pub joins : (s r k i : ℕ) → 0 < s → Part s r k i → pending rows reads chosen s r k i ≡ true
   unfolding pending
   joins s r k i h p = both (not (eqb s 0)) _ (ap not (ne-eqb s 0 (λ e. omega arith))) (one p)
     where
       chain : Bool
-      chain = ltb k (length chosen) && (eqb (varOf rows chosen k) (varOf rows chosen i) && leb k i)
+      chain = ltb k (length chosen) && (eqb (variableOf rows chosen k) (variableOf rows chosen i) && leb k i)
 
-      one : Part s r k i → (chain || (readsAny reads r (stopOf rows s) (varOf rows chosen i) || around rows reads s (varOf rows chosen i))) ≡ true
+      one : Part s r k i → (chain || (readsAny reads r (stopOf rows s) (variableOf rows chosen i) || around rows reads s (variableOf rows chosen i))) ≡ true
       one (chained a b c) =
           or-left chain _ (both (ltb k (length chosen)) _ (lt-ltb k (length chosen) a)
-          (both (eqb (varOf rows chosen k) (varOf rows chosen i)) _ (eq-eqb _ _ b) (le-leb k i c)))
-      one (readLater a) = or-right chain _ (or-left (readsAny reads r (stopOf rows s) (varOf rows chosen i)) _ a)
-      one (readAround a) = or-right chain _ (or-right (readsAny reads r (stopOf rows s) (varOf rows chosen i)) _ a)
+          (both (eqb (variableOf rows chosen k) (variableOf rows chosen i)) _ (eq-eqb _ _ b) (le-leb k i c)))
+      one (readLater a) = or-right chain _ (or-left (readsAny reads r (stopOf rows s) (variableOf rows chosen i)) _ a)
+      one (readAround a) = or-right chain _ (or-right (readsAny reads r (stopOf rows s) (variableOf rows chosen i)) _ a)
 
   pub some-star : (s r k i : ℕ) → pending rows reads chosen s r k i ≡ true → 0 < s
   unfolding pending
@@ -114,16 +114,16 @@ module _ (rows reads chosen : List ℕ) where
   -- before all that a star reads: what the star and the guards around it read
   pub opened : (s i : ℕ) → 0 < s
       → pending rows reads chosen s (fromOf rows s) (length chosen) i
-      ≡ (starReads rows reads s (varOf rows chosen i) || around rows reads s (varOf rows chosen i))
+      ≡ (starReads rows reads s (variableOf rows chosen i) || around rows reads s (variableOf rows chosen i))
   opened s i h = same-answer _ _
       (λ e. out (parts s (fromOf rows s) (length chosen) i e))
-      (λ e. joins s (fromOf rows s) (length chosen) i h (pick (or-cases (starReads rows reads s (varOf rows chosen i)) _ e)
-      (λ q. readLater (sym (star-reads rows reads s (varOf rows chosen i)) ∙ q)) readAround))
+      (λ e. joins s (fromOf rows s) (length chosen) i h (pick (or-cases (starReads rows reads s (variableOf rows chosen i)) _ e)
+      (λ q. readLater (sym (star-reads rows reads s (variableOf rows chosen i)) ∙ q)) readAround))
     where
-      out : Part s (fromOf rows s) (length chosen) i → (starReads rows reads s (varOf rows chosen i) || around rows reads s (varOf rows chosen i)) ≡ true
+      out : Part s (fromOf rows s) (length chosen) i → (starReads rows reads s (variableOf rows chosen i) || around rows reads s (variableOf rows chosen i)) ≡ true
       out (chained a b c) = absurd (omega arith)
-      out (readLater a) = or-left (starReads rows reads s (varOf rows chosen i)) _ (star-reads rows reads s (varOf rows chosen i) ∙ a)
-      out (readAround a) = or-right (starReads rows reads s (varOf rows chosen i)) _ a
+      out (readLater a) = or-left (starReads rows reads s (variableOf rows chosen i)) _ (star-reads rows reads s (variableOf rows chosen i) ∙ a)
+      out (readAround a) = or-right (starReads rows reads s (variableOf rows chosen i)) _ a
 
   module _ (net : List ℕ) (#N : ℕ) (ready : Ready rows reads chosen net #N) (s r k : ℕ) (P : Place rows chosen #N s r k) (h : 0 < s) where
     -- the reads of a star are there
@@ -142,13 +142,13 @@ module _ (rows reads chosen : List ℕ) where
     })
       where
         next : ℕ
-        next = firstWith rows chosen (varOf rows chosen k) (k + 1)
+        next = firstWith rows chosen (variableOf rows chosen k) (k + 1)
 
         next-in : (k + 1 ≤ next) × (next ≤ length chosen)
-        next-in = with-in rows chosen (varOf rows chosen k) (k + 1) (omega arith)
+        next-in = with-in rows chosen (variableOf rows chosen k) (k + 1) (omega arith)
 
-        next-of : next < length chosen → varOf rows chosen next ≡ varOf rows chosen k
-        next-of = with-of rows chosen (varOf rows chosen k) (k + 1) (omega arith)
+        next-of : next < length chosen → variableOf rows chosen next ≡ variableOf rows chosen k
+        next-of = with-of rows chosen (variableOf rows chosen k) (k + 1) (omega arith)
 
         old : (i : ℕ) → Part s r next i → Part s r k i
         old i (chained a b c) = chained l (sym (next-of a) ∙ b) (let z = next-in in omega arith)
@@ -157,7 +157,7 @@ module _ (rows reads chosen : List ℕ) where
 
         new : (i : ℕ) → i < length chosen → (i ≡ k → ⊥) → Part s r k i → Part s r next i
         new i hi d (chained a b c) =
-            let z = with-low rows chosen (varOf rows chosen k) (k + 1) (omega arith) i (omega arith) hi (sym b) in
+            let z = with-low rows chosen (variableOf rows chosen k) (k + 1) (omega arith) i (omega arith) hi (sym b) in
             let y : next < length chosen = omega arith in
             chained y (next-of y ∙ b) z
         new i hi d (readLater a) = readLater a
@@ -185,22 +185,22 @@ module _ (rows reads chosen : List ℕ) where
         start : ℕ
         start = firstWith rows chosen v 0
 
-        start-of : start < length chosen → varOf rows chosen start ≡ v
+        start-of : start < length chosen → variableOf rows chosen start ≡ v
         start-of = with-of rows chosen v 0 (omega arith)
 
         taken : (x : ℕ) → readsAny reads r (stopOf rows s) x ≡ (eqb x v || readsAny reads (r + 1) (stopOf rows s) x)
         taken x = reads-step reads r (stopOf rows s) x m stop-in
 
         old : (i : ℕ) → Part s (r + 1) start i → Part s r k i
-        old i (chained a b c) = readLater (taken (varOf rows chosen i) ∙ or-left (eqb (varOf rows chosen i) v) _ (eq-eqb _ _ (sym b ∙ start-of a)))
-        old i (readLater a) = readLater (taken (varOf rows chosen i) ∙ or-right (eqb (varOf rows chosen i) v) _ a)
+        old i (chained a b c) = readLater (taken (variableOf rows chosen i) ∙ or-left (eqb (variableOf rows chosen i) v) _ (eq-eqb _ _ (sym b ∙ start-of a)))
+        old i (readLater a) = readLater (taken (variableOf rows chosen i) ∙ or-right (eqb (variableOf rows chosen i) v) _ a)
         old i (readAround a) = readAround a
 
         new : (i : ℕ) → i < length chosen → Part s r k i → Part s (r + 1) start i
         new i hi (chained a b c) = absurd (omega arith)
         new i hi (readLater a) =
-            pick (or-cases (eqb (varOf rows chosen i) v) _ (sym (taken (varOf rows chosen i)) ∙ a))
-            (λ q. let e = eqb-true (varOf rows chosen i) v q in
+            pick (or-cases (eqb (variableOf rows chosen i) v) _ (sym (taken (variableOf rows chosen i)) ∙ a))
+            (λ q. let e = eqb-true (variableOf rows chosen i) v q in
             let z = with-low rows chosen v 0 (omega arith) i (omega arith) hi e in
             let y : start < length chosen = omega arith in
             chained y (start-of y ∙ sym e) z)
@@ -216,12 +216,12 @@ module _ (rows reads chosen : List ℕ) where
         → After rows reads chosen #N s r k (getD net (guardsFrom + s) 0) (fromOf rows (getD net (guardsFrom + s) 0)) (length chosen)
     after-star l m = rw (ready .netted .guards .guards s (P .star)) (by-lt 0 (guardOf rows s) some-guard no-more)
       where
-        from-here : (i : ℕ) → pending rows reads chosen s r k i ≡ true → around rows reads s (varOf rows chosen i) ≡ true
+        from-here : (i : ℕ) → pending rows reads chosen s r k i ≡ true → around rows reads s (variableOf rows chosen i) ≡ true
         from-here i e = go (parts s r k i e)
           where
-            go : Part s r k i → around rows reads s (varOf rows chosen i) ≡ true
+            go : Part s r k i → around rows reads s (variableOf rows chosen i) ≡ true
             go (chained a b c) = absurd (omega arith)
-            go (readLater a) = never _ a (reads-none reads r (stopOf rows s) (varOf rows chosen i) m)
+            go (readLater a) = never _ a (reads-none reads r (stopOf rows s) (variableOf rows chosen i) m)
             go (readAround a) = a
 
         no-more : guardOf rows s ≤ 0 → After rows reads chosen #N s r k (guardOf rows s) (fromOf rows (guardOf rows s)) (length chosen)
@@ -229,7 +229,7 @@ module _ (rows reads chosen : List ℕ) where
           place = record { star = let z = P .star in omega arith; kind = λ q. absurd (omega arith); read = λ q. absurd (omega arith); number = omega arith };
           old = λ i q. absurd (let z = some-star 0 (fromOf rows 0) (length chosen) i q in omega arith);
           less = omega (arith, ahead-is s r k h, ahead-none (fromOf rows 0) (length chosen));
-          only = λ i hi q f. never _ (from-here i q) (no-guard rows reads #N (ready .choice .tree) s (varOf rows chosen i) e);
+          only = λ i hi q f. never _ (from-here i q) (no-guard rows reads #N (ready .choice .tree) s (variableOf rows chosen i) e);
           exactly = rw e at (past-star l m);
         })
 
@@ -241,11 +241,11 @@ module _ (rows reads chosen : List ℕ) where
             read = λ _. let z = stop in omega (arith, ready .few);
             number = omega arith;
           };
-          old = λ i e. joins s r k i h (readAround (w .outward (varOf rows chosen i) ∙ sym (opened (guardOf rows s) i o) ∙ e));
+          old = λ i e. joins s r k i h (readAround (w .outward (variableOf rows chosen i) ∙ sym (opened (guardOf rows s) i o) ∙ e));
           less =
               let z = stop in
               omega (arith, w .below, ready .few, ahead-is s r k h, ahead-is (guardOf rows s) (fromOf rows (guardOf rows s)) (length chosen) o);
-          only = λ i hi e f. never _ (opened (guardOf rows s) i o ∙ sym (w .outward (varOf rows chosen i)) ∙ from-here i e) f;
+          only = λ i hi e f. never _ (opened (guardOf rows s) i o ∙ sym (w .outward (variableOf rows chosen i)) ∙ from-here i e) f;
           exactly = past-star l m;
         }
           where

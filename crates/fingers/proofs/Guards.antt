@@ -11,10 +11,9 @@ use Rattle.paper.specs.Lists.{anyOf}
 use Rattle.paper.proofs.Bools.{both, and-left, and-right, or-left, or-right, or-cases, not-so, same-answer, pick}
 use Rattle.paper.proofs.Lists.{to-any, of-any}
 use Rattle.rows.specs.Rows.{kindOf, endOf}
-use Rattle.net.specs.Prior.{upTo, lastOf, isGuarded, guardOf, starReads, isFrozen}
+use Rattle.net.specs.Prior.{upTo, lastOf, isGuarded, guardOf, starReads, around, isFrozen}
 use Rattle.net.specs.Net.{Tree}
 use Rattle.net.proofs.Last.{Last, last-of}
-use Rattle.fingers.specs.Places.{around}
 use Rattle.fingers.proofs.Tests.{by, by-eq, by-lt, never}
 use Rattle.fingers.proofs.Kept.{in-upTo, of-upTo}
 
@@ -165,7 +164,7 @@ module _ (rows reads : List ℕ) (#N : ℕ) (tree : Tree rows #N) where
             })
 
     own-or-around : (i v : ℕ) → isFrozen rows reads i v ≡ (starReads rows reads (i + 1) v || around rows reads i v)
-    unfolding isFrozen around
+    unfolding isFrozen
     own-or-around i v = refl
 
     pub frozen-is : (i v : ℕ) → i < #N → kindOf rows i ≡ 2 → isFrozen rows reads i v ≡ (starReads rows reads (i + 1) v || around rows reads (i + 1) v)

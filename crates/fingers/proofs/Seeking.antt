@@ -10,10 +10,10 @@ use lib.Seq.{getD-set-other}
 use borrow.Author.Tests.{ne-eqb, lt-ltb, le-ltb, ltb-true, not-true, not-false}
 use Rattle.paper.proofs.Bools.{both, and-left, and-right, not-so}
 use Rattle.rows.specs.Rows.{kindOf, fromOf}
-use Rattle.net.specs.Prior.{isFrozen, prior}
+use Rattle.net.specs.Prior.{isFrozen, variableOf, prior}
 use Rattle.fingers.specs.Ready.{Ready}
 use Rattle.fingers.specs.Graph.{Graph, Next, free, outside, slots, Started}
-use Rattle.fingers.specs.Places.{packed, varOf, calls, startOf, AtStart, pending, After, PlaceOf, Sought, passedOf, fingerOf, graphOf, Answered}
+use Rattle.fingers.specs.Places.{packed, calls, startOf, AtStart, pending, After, PlaceOf, Sought, passedOf, fingerOf, graphOf, Answered}
 use Rattle.fingers.proofs.Tests.{by, by-eq, never, at-set}
 use Rattle.fingers.proofs.Guards.{frozen-is}
 use Rattle.fingers.proofs.GoesOn.{chained, joins, some-star, opened}
@@ -50,7 +50,7 @@ module _ (rows reads chosen : List ℕ) (#N : ℕ) where
     unfolding calls prior
     not-prior k h e q =
         not-so _ (λ p. never _ (both (ltb k (length chosen)) _ (lt-ltb k (length chosen) h)
-        (both (o k) _ q (and-right (isFrozen rows reads (getD chosen j 0) (varOf rows chosen k)) _ p))) e)
+        (both (o k) _ q (and-right (isFrozen rows reads (getD chosen j 0) (variableOf rows chosen k)) _ p))) e)
 
     pub sought-more : (net : List ℕ) → Ready rows reads chosen net #N → (s r k s′ r′ k′ : ℕ) → 0 < s
         → Sought rows reads chosen #N o j s₀ r₀ k₀ s r k → calls rows chosen o k j ≡ false → After rows reads chosen #N s r k s′ r′ k′
@@ -94,7 +94,7 @@ module _ (rows reads chosen : List ℕ) (#N : ℕ) where
         finds (packed s r k) s r k (u .0) (u .1) (u .2) k (omega arith) x
         (λ _. (
           and-left (o k) _ q,
-          both (isFrozen rows reads (getD chosen j 0) (varOf rows chosen k)) _
+          both (isFrozen rows reads (getD chosen j 0) (variableOf rows chosen k)) _
               (x .at .frozen k (joins rows reads chosen s r k k h (chained l refl (omega arith)))) (and-right (o k) _ q),
         ))
         (λ g. absurd (omega arith))
@@ -148,10 +148,10 @@ module _ (rows reads chosen : List ℕ) (#N : ℕ) where
     from-in = let z = ready .read own own-in own-star in omega (arith, ready .few)
 
     -- what lies from it on is what is frozen at j
-    pub all-frozen : (i : ℕ) → pending rows reads chosen own (fromOf rows own) (length chosen) i ≡ isFrozen rows reads (getD chosen j 0) (varOf rows chosen i)
+    pub all-frozen : (i : ℕ) → pending rows reads chosen own (fromOf rows own) (length chosen) i ≡ isFrozen rows reads (getD chosen j 0) (variableOf rows chosen i)
     all-frozen i =
         opened rows reads chosen own i (omega arith)
-        ∙ sym (frozen-is rows reads #N (ready .choice .tree) (ready .guarded) (getD chosen j 0) (varOf rows chosen i) (let z = own-in in omega arith)
+        ∙ sym (frozen-is rows reads #N (ready .choice .tree) (ready .guarded) (getD chosen j 0) (variableOf rows chosen i) (let z = own-in in omega arith)
         (ready .choice .candidates j hj))
 
     start-parts : (startOf rows chosen j / 4294967296 ≡ own) × (startOf rows chosen j / 65536 % 65536 ≡ fromOf rows own)
@@ -173,7 +173,7 @@ module _ (rows reads chosen : List ℕ) (#N : ℕ) where
         let f = startOf rows chosen j in
         let gone = not-true (pending rows reads chosen (f / 4294967296) (f / 65536 % 65536) (f % 65536) i) e in
         let none : pending rows reads chosen own (fromOf rows own) (length chosen) i ≡ false = rw (s .0, s .1, s .2) at gone in
-        not-so _ (λ p. never _ (and-left (isFrozen rows reads (getD chosen j 0) (varOf rows chosen i)) _ p) (sym (all-frozen i) ∙ none))
+        not-so _ (λ p. never _ (and-left (isFrozen rows reads (getD chosen j 0) (variableOf rows chosen i)) _ p) (sym (all-frozen i) ∙ none))
 
   pub started : (net old finger : List ℕ) → Ready rows reads chosen net #N → AtStart rows chosen (length chosen) old finger
       → Started (graphOf rows reads chosen #N) finger

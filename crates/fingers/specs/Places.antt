@@ -9,7 +9,7 @@ use lib.Dec.{eqb, ltb, leb}
 use lib.ListN.{length, getD, take, drop}
 use Rattle.paper.specs.Lists.{anyOf}
 use Rattle.rows.specs.Rows.{kindOf, argOf, fromOf}
-use Rattle.net.specs.Prior.{upTo, isGuarded, guardOf, starReads, isFrozen, together, prior}
+use Rattle.net.specs.Prior.{guardOf, around, isFrozen, together, variableOf, prior}
 use Rattle.net.specs.Net.{firstWith}
 use Rattle.fingers.specs.declared.Found.{Found}
 use Rattle.fingers.specs.Graph.{Graph, Next}
@@ -22,17 +22,9 @@ stopOf rows s = fromOf rows s + argOf rows s
 unfoldable pub readsAny : List ℕ → ℕ → ℕ → ℕ → Bool
 readsAny reads a b v = anyOf (eqb v) (take (b - a) (drop a reads))
 
--- a guard around row s reads v
-unfoldable pub around : List ℕ → List ℕ → ℕ → ℕ → Bool
-around rows reads s v = anyOf (λ a. isGuarded rows a s && starReads rows reads (a + 1) v) (upTo s)
-
 -- three numbers below 65,536 in one
 abbrev pub packed : ℕ → ℕ → ℕ → ℕ
 packed s r k = s * 4294967296 + r * 65536 + k
-
--- the variable of the k-th chosen label
-abbrev pub varOf : List ℕ → List ℕ → ℕ → ℕ
-varOf rows chosen k = argOf rows (getD chosen k 0)
 
 -- how far a place is from the end
 unfoldable pub ahead : List ℕ → List ℕ → ℕ → ℕ → ℕ → ℕ
@@ -79,14 +71,14 @@ module _ (rows reads chosen : List ℕ) where
   unfoldable pub pending : ℕ → ℕ → ℕ → ℕ → Bool
   pending s r k i =
       not (eqb s 0)
-      && (ltb k (length chosen) && (eqb (varOf rows chosen k) (varOf rows chosen i) && leb k i)
-      || (readsAny reads r (stopOf rows s) (varOf rows chosen i) || around rows reads s (varOf rows chosen i)))
+      && (ltb k (length chosen) && (eqb (variableOf rows chosen k) (variableOf rows chosen i) && leb k i)
+      || (readsAny reads r (stopOf rows s) (variableOf rows chosen i) || around rows reads s (variableOf rows chosen i)))
 
   -- The place after (s, r, k), which has a star: the next number of the variable; past the last, the first number of the next
   -- read; past the last read, the star of the guard around, before all that it reads.
   unfoldable pub placeAfter : ℕ → ℕ → ℕ → ℕ × ℕ × ℕ
   placeAfter s r k =
-      cond (ltb k (length chosen)) (s, r, firstWith rows chosen (varOf rows chosen k) (k + 1))
+      cond (ltb k (length chosen)) (s, r, firstWith rows chosen (variableOf rows chosen k) (k + 1))
       (cond (ltb r (stopOf rows s)) (s, r + 1, firstWith rows chosen (getD reads r 0) 0) (guardOf rows s, fromOf rows (guardOf rows s), length chosen))
 
   -- What a search answers at (s, r, k), by whether there is no star and whether the number calls: finger 0 and how many numbers
@@ -117,7 +109,7 @@ module _ (rows reads chosen : List ℕ) where
     -- (s, r, k) is a place of j: what lies from it on is frozen at j
     pub record PlaceOf (j s r k : ℕ) : Type 0 where
       pub place : Place rows chosen #N s r k
-      pub frozen : (i : ℕ) → pending s r k i ≡ true → isFrozen rows reads (getD chosen j 0) (varOf rows chosen i) ≡ true
+      pub frozen : (i : ℕ) → pending s r k i ≡ true → isFrozen rows reads (getD chosen j 0) (variableOf rows chosen i) ≡ true
 
     -- what a search for j from (s₀, r₀, k₀) has shown at (s, r, k): whatever was passed and is open is not before j, and the
     -- answer from the one is the answer from the other

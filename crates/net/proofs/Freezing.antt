@@ -21,7 +21,7 @@ use Rattle.paper.proofs.Frozen.{frozen-at-site}
 use Rattle.rows.specs.Rows.{endOf}
 use Rattle.written.specs.Written.{size}
 use Rattle.written.proofs.Writes.{RowIs, StarIs, Writes, WritesAll}
-use Rattle.net.specs.Prior.{upTo, isGuarded, starReads, isFrozen}
+use Rattle.net.specs.Prior.{upTo, isGuarded, starReads, around, isFrozen}
 use Rattle.net.proofs.UpTo.{any-next, any-past, any-map}
 use Rattle.net.proofs.Spans.{rises, ends-inside, Among, past-row, past-star, no-candidate, own-row, either-part}
 
@@ -74,7 +74,7 @@ module _ (rows reads : List ℕ) (x v : ℕ) where
   -- a candidate
   own-site : {i t : ℕ} {l : Label} {s : Star} (g : List Star) (others : List Site) → l ≡ ℓ i → StarIs rows reads s (i + 1) t → x ≡ i → Around g i
       → SiteOf (site l (g ++ (s ∷ [])) ∷ others)
-  unfolding isFrozen
+  unfolding isFrozen around
   own-site {s = s} g others e own here around =
       record {
         found = site _ (g ++ (s ∷ []));

@@ -18,7 +18,7 @@ use Rattle.paper.proofs.Labels.{same-refl, same-eq, mem-has, known-candidate}
 use Rattle.rows.specs.Rows.{kindOf, argOf}
 use Rattle.written.specs.Written.{size}
 use Rattle.written.proofs.Writes.{Writes}
-use Rattle.net.specs.Prior.{upTo, labelOf, prior}
+use Rattle.net.specs.Prior.{upTo, prior}
 use Rattle.net.proofs.Spans.{rises, Among, candidateAt, candidate-listed}
 use Rattle.net.proofs.Sharing.{sharing-is-together}
 use Rattle.net.proofs.Freezing.{frozen-as-rows-say}
@@ -54,8 +54,8 @@ module _ (rows reads : List ℕ) (f : Formula) (writes : Writes rows reads f 0 0
         → before f (map ℓ chosen) (ℓ (getD chosen i 0)) (ℓ (getD chosen j 0)) ≡ prior rows reads chosen i j
     unfolding prior
     prior-is-before i j h k =
-        let a = labelOf rows reads chosen i in
-        let b = labelOf rows reads chosen j in
+        let a = getD chosen i 0 in
+        let b = getD chosen j 0 in
         both-chosen (chosen-has i h) (chosen-has j k) (sharing-is-together rows reads f 0 0 writes a b (row-of i h) (row-of j k))
         (depends-on-row a b (row-of i h) ∙ frozen-as-rows-say rows reads f writes b (argOf rows a) (row-of j k))
       where

@@ -48,18 +48,18 @@ module _ (rows : List ℕ) where
     unfoldable pub starReads : ℕ → ℕ → Bool
     starReads s v = anyOf (eqb v) (take (argOf rows s) (drop (fromOf rows s) reads))
 
-    -- v is frozen at the candidate in row i: its own star reads it, or the star of a guard around it
+    -- the star of a guard around row i reads v
+    unfoldable pub around : ℕ → ℕ → Bool
+    around i v = anyOf (λ a. isGuarded a i && starReads (a + 1) v) (upTo i)
+
+    -- v is frozen at the candidate in row i: its own star reads it, or that of a guard around it
     unfoldable pub isFrozen : ℕ → ℕ → Bool
-    isFrozen i v = starReads (i + 1) v || anyOf (λ a. isGuarded a i && starReads (a + 1) v) (upTo i)
+    isFrozen i v = starReads (i + 1) v || around i v
 
-    module _ (chosen : List ℕ) where
-      -- the label and the variable of the k-th chosen label
-      abbrev pub labelOf : ℕ → ℕ
-      labelOf k = getD chosen k 0
+-- the variable of the k-th chosen label
+abbrev pub variableOf : List ℕ → List ℕ → ℕ → ℕ
+variableOf rows chosen k = argOf rows (getD chosen k 0)
 
-      abbrev pub variableOf : ℕ → ℕ
-      variableOf k = argOf rows (labelOf k)
-
-      -- the i-th chosen label comes before the j-th
-      unfoldable pub prior : ℕ → ℕ → Bool
-      prior i j = isFrozen (labelOf j) (variableOf i) && together (labelOf i) (labelOf j)
+-- the i-th chosen label comes before the j-th
+unfoldable pub prior : List ℕ → List ℕ → List ℕ → ℕ → ℕ → Bool
+prior rows reads chosen i j = isFrozen rows reads (getD chosen j 0) (variableOf rows chosen i) && together rows (getD chosen i 0) (getD chosen j 0)

@@ -9,19 +9,19 @@ use lib.ListN.{length, getD}
 use borrow.Author.Tests.{eq-eqb}
 use Rattle.paper.proofs.Bools.{not-so, same-answer}
 use Rattle.rows.specs.Rows.{fromOf}
-use Rattle.net.specs.Prior.{isFrozen, together, prior, guardOf}
+use Rattle.net.specs.Prior.{isFrozen, together, variableOf, prior, guardOf}
 use Rattle.net.specs.Net.{guardsFrom}
 use Rattle.fingers.specs.Ready.{Ready}
-use Rattle.fingers.specs.Places.{stopOf, readsAny, varOf, Place, pending, After}
+use Rattle.fingers.specs.Places.{stopOf, readsAny, Place, pending, After}
 use Rattle.fingers.proofs.Tests.{by, by-lt, never}
 use Rattle.fingers.proofs.Guards.{the-guard}
 use Rattle.fingers.proofs.GoesOn.{Part, chained, readLater, readAround, parts, joins, some-star, stop-in, after-star, reads-none}
 use Rattle.fingers.proofs.Seeking.{own-in, own-star, from-in, all-frozen}
 
 -- a number is before itself where its own variable is frozen at it
-prior-itself : (rows reads chosen : List ℕ) (j : ℕ) → prior rows reads chosen j j ≡ isFrozen rows reads (getD chosen j 0) (varOf rows chosen j)
+prior-itself : (rows reads chosen : List ℕ) (j : ℕ) → prior rows reads chosen j j ≡ isFrozen rows reads (getD chosen j 0) (variableOf rows chosen j)
 unfolding prior together
-prior-itself rows reads chosen j = rw (eq-eqb (getD chosen j 0) (getD chosen j 0) refl) (and-true (isFrozen rows reads (getD chosen j 0) (varOf rows chosen j)))
+prior-itself rows reads chosen j = rw (eq-eqb (getD chosen j 0) (getD chosen j 0) refl) (and-true (isFrozen rows reads (getD chosen j 0) (variableOf rows chosen j)))
 
 -- the star around a star: a place, before all that it reads
 module _ (rows reads chosen net : List ℕ) (#N : ℕ) (ready : Ready rows reads chosen net #N) (s : ℕ)
@@ -51,10 +51,10 @@ module _ (rows reads chosen : List ℕ) (j : ℕ) where
 
   module _ (net : List ℕ) (#N : ℕ) (ready : Ready rows reads chosen net #N) (s : ℕ)
       (P : Place rows chosen #N s (fromOf rows s) (length chosen)) (h : 0 < s) where
-    pub below-read : readsAny reads (fromOf rows s) (stopOf rows s) (varOf rows chosen j) ≡ true → below s ≡ true
+    pub below-read : readsAny reads (fromOf rows s) (stopOf rows s) (variableOf rows chosen j) ≡ true → below s ≡ true
     below-read e = joins rows reads chosen s (fromOf rows s) (length chosen) j h (readLater e)
 
-    pub below-outer : readsAny reads (fromOf rows s) (stopOf rows s) (varOf rows chosen j) ≡ false → j < length chosen
+    pub below-outer : readsAny reads (fromOf rows s) (stopOf rows s) (variableOf rows chosen j) ≡ false → j < length chosen
         → below (getD net (guardsFrom + s) 0) ≡ below s
     below-outer e hj = same-answer _ _ (λ q. inner (parts rows reads chosen s (stopOf rows s) (length chosen) j (around-it .old j q)))
         (λ q. by (below (getD net (guardsFrom + s) 0)) (λ t. t)
@@ -66,7 +66,7 @@ module _ (rows reads chosen : List ℕ) (j : ℕ) where
 
         inner : Part rows reads chosen s (stopOf rows s) (length chosen) j → below s ≡ true
         inner (chained a b c) = absurd (omega arith)
-        inner (readLater a) = never _ a (reads-none reads (stopOf rows s) (stopOf rows s) (varOf rows chosen j) (omega arith))
+        inner (readLater a) = never _ a (reads-none reads (stopOf rows s) (stopOf rows s) (variableOf rows chosen j) (omega arith))
         inner (readAround a) = joins rows reads chosen s (fromOf rows s) (length chosen) j h (readAround a)
 
         past : Part rows reads chosen s (fromOf rows s) (length chosen) j → pending rows reads chosen s (stopOf rows s) (length chosen) j ≡ true
