@@ -28,13 +28,13 @@ use Rattle.rows.proofs.Rules.{rest}
 use Rattle.written.proofs.Words.{map-back, word-mem}
 use Rattle.rows.specs.Walk.{Walkable}
 use Rattle.keys.specs.declared.Distinct.{Distinct}
-use Rattle.marks.specs.Marks.{Marked, AllBelow}
+use Rattle.marks.specs.Marks.{isMarked, Marked, AllBelow}
 use Rattle.keys.specs.Keys.{keysAt}
 use Rattle.strategy.specs.declared.Accepted.{Accepted}
 use Rattle.strategy.specs.Judge.{proposalIn}
 use Rattle.strategy.proofs.Held.{parts-of, Reached, reached, walkable}
 use Rattle.transitions.specs.Kept.{Keepable, MarkedKept}
-use Rattle.transitions.specs.Assigned.{isKeptIn, keptOf, Fillable}
+use Rattle.transitions.specs.Assigned.{keptOf, Fillable}
 use Rattle.transitions.specs.Statements.{kthBytes, TransitionSays}
 use Rattle.transitions.proofs.MarkedBytes.{length-bytes}
 use Rattle.transitions.proofs.Words.{those-same, kept-labels, as-many-ordered}
@@ -188,7 +188,7 @@ module _ (words : List ℕ) (a : Accepted) (e : AcceptedAs words a) where
         fillable labels room = record {
           there = omega (arith, placed-length, length-take (l .chosen) order);
           below = λ j i. let b = rw getD-take at (placed-below j (omega (arith, placed-length))) in omega (arith, front-length);
-          room = omega (arith, those-le (isKeptIn (take (l .rows) left)) placed, placed-length, few-chosen words a e);
+          room = omega (arith, those-le (isMarked (take (l .rows) left)) placed, placed-length, few-chosen words a e);
         }
 
         assigned-are : keptOf (take (l .rows) left) placed ≡ assignedOf words l k
@@ -205,7 +205,7 @@ module _ (words : List ℕ) (a : Accepted) (e : AcceptedAs words a) where
           pub assigned-there : (filled ≤ length labels′) × (filled ≤ 2048)
           assigned-there = (
             omega (arith, n, simp length-append at (ap length after)),
-            omega (arith, n, those-le (isKeptIn (take (l .rows) left)) placed, placed-length, few-chosen words a e),
+            omega (arith, n, those-le (isMarked (take (l .rows) left)) placed, placed-length, few-chosen words a e),
           )
 
           pub assigned-front : take filled labels′ ≡ assignedOf words l k

@@ -33,7 +33,7 @@ use Rattle.cover.specs.declared.Words.{Words}
 use Rattle.cover.specs.declared.Covering.the-variants.{Missed, Doubled, Covered}
 use Rattle.marks.specs.Marks.{isMarked, Marked}
 use Rattle.cover.specs.Words.{leafWords, unitWords, bothWords, joinWords, maskOf, wordsReading, wordsAt, bitAt, isMissed, isDoubled, firstOf, coveringOf, coveringBy, judgementOf}
-use Rattle.cover.proofs.FewLabels.{leaves-labelled}
+use Rattle.cover.proofs.Leaves.{leaves-labelled}
 use Rattle.cover.proofs.Bits.{and-bit, or-bit, zero-bit, all-bit, power-bit}
 
 -- bit b of each word, as the cover of one variable

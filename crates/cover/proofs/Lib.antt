@@ -1,4 +1,4 @@
-pub mod FewLabels
+pub mod Leaves
 pub mod Bits
 pub mod Blocks
 pub mod CoveringSays

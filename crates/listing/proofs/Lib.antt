@@ -2,6 +2,5 @@ pub mod Placing
 pub mod Decimals
 pub mod Texts
 pub mod Lengths
-pub mod Positions
 pub mod Example
 pub mod OneOutcome

@@ -88,8 +88,3 @@ placed-more old at word i room h =
     ∙ ap (λ (k : ℕ). placed (placed old at (take i word)) (at + k) (getD word i 0 ∷ [])) (sym long)
     ∙ placed-behind old at (take i word) (getD word i 0 ∷ []) (omega arith)
     ∙ rw (add-one, take-suc word i 0 h)
-
--- what is promised leaves nothing open
-pub put-tight : {old bytes new other : List ℕ} {at after next : ℕ} → Put old at bytes new after → Put old at bytes other next
-    → (new ≡ other) × (after ≡ next)
-put-tight p q = (p .text ∙ sym (q .text), p .next ∙ sym (q .next))

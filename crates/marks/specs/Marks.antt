@@ -1,4 +1,4 @@
--- The chosen labels as marks, one byte for each of 4,096 labels.
+-- Labels as marks, a byte for each label: the chosen labels of a table, in 4,096 bytes, and the labels that a transition keeps.
 use Prim.Native.Nat.{ℕ, _<_}
 use mathlib.Core.Bool.{Bool}
 use mathlib.Core.Path.{_≡_}
@@ -8,7 +8,7 @@ use lib.ListN.{length, getD}
 use Rattle.paper.specs.declared.Label.{Label}
 use Rattle.paper.specs.Formula.{ℓ, has}
 
--- label l is marked
+-- label l is marked: its byte is 1
 unfoldable pub isMarked : List ℕ → ℕ → Bool
 isMarked marks l = eqb (getD marks l 0) 1
 

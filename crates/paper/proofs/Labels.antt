@@ -147,10 +147,6 @@ mutual
   any-sub (only f) b t = branch-sub f b t
   any-sub (f ⨾ fs) b t = of-either (labels f) (labelsOf fs) (branches f) (ofAny fs) b (λ u. branch-sub f b u) (λ u. any-sub fs b u) t
 
-pub branch-rises : (f : Formula) (b : List Label) → Rising 0 (labels f) → List·Memᴰ b (branches f) → Rising 0 b
-branch-rises f b r t = rising-sub 0 (branch-sub f b t) r
-
--- of things whose labels rise, two with one label are one
 module _ {A : Type 0} (labelOf : A → Label) where
   pub known : (p : ℕ) (xs : List A) → Rising p (map labelOf xs) → (c d : A) → List·Memᴰ c xs → List·Memᴰ d xs → labelOf c ≡ labelOf d → c ≡ d
   known p [] r c d t u e = absurd (List·Memᴰ·not-nil t)

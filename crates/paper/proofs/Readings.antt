@@ -110,9 +110,6 @@ module _ {A B : Type 0} (r : Reading A) (q : Reading B) (h : A → B) where
       pub carried-everywhere : (f : Formula) → h (readOf r f) ≡ readOf q f
       carried-everywhere f = carried f (at-leaves _ _ _ no tested chosen f)
 
-      pub carried-all-everywhere : (c : Bool) {a : A} {b : B} → h a ≡ b → (fs : Formulas) → h (readAll r c a fs) ≡ readAll q c b fs
-      carried-all-everywhere c e fs = carried-all c e fs (at-leaves-of _ _ _ no tested chosen fs)
-
 -- the children joined from the right
 abbrev pub joinedFromRight : {A : Type 0} → Reading A → Bool → Formulas → A
 joinedFromRight r c (only f) = readOf r f

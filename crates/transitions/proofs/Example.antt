@@ -18,7 +18,7 @@ use Rattle.rows.proofs.Shaped.{shaped}
 use Rattle.marks.specs.Marks.{isMarked}
 use Rattle.keys.specs.Keys.{joinKeys, total, keysAt}
 use Rattle.transitions.specs.Kept.{Keepable, bytesOf}
-use Rattle.transitions.specs.Assigned.{isKeptIn, keptOf, Fillable}
+use Rattle.transitions.specs.Assigned.{keptOf, Fillable}
 
 abbrev rowsOfP : List ℕ
 rowsOfP = 3 ∷ 2 ∷ 8 ∷ 0 ∷ 2 ∷ 0 ∷ 3 ∷ 0 ∷ 1 ∷ 0 ∷ 3 ∷ 0 ∷ 4 ∷ 2 ∷ 8 ∷ 0 ∷ 2 ∷ 1 ∷ 6 ∷ 0 ∷ 1 ∷ 1 ∷ 6 ∷ 0 ∷ 2 ∷ 1 ∷ 8 ∷ 1 ∷ 1 ∷ 0 ∷ 8 ∷ 1 ∷ []
@@ -60,11 +60,11 @@ unfolding bytesOf1
 P-transition-1 = refl
 
 P-assigned-1 : keptOf bytesOf1 (1 ∷ 4 ∷ 6 ∷ []) ≡ 1 ∷ 6 ∷ []
-unfolding bytesOf1 isKeptIn
+unfolding bytesOf1 isMarked
 P-assigned-1 = refl
 
 P-fillable : Fillable (1 ∷ 4 ∷ 6 ∷ []) 3 bytesOf1 (0 ∷ 0 ∷ [])
-unfolding bytesOf1 isKeptIn
+unfolding bytesOf1 isMarked
 P-fillable = record { there = omega arith; below = below; room = omega arith }
   where
     below : (k : ℕ) → k < 3 → getD (1 ∷ 4 ∷ 6 ∷ []) k 0 < 8

@@ -10,7 +10,8 @@ use lib.ListN.{length, getD, set, take, drop, length-append, take-append-drop}
 use lib.Seq.{drop-cons, set-at, take-suc, take-take}
 use Rattle.paper.specs.Lists.{those}
 use Rattle.paper.proofs.Lists.{those-append}
-use Rattle.transitions.specs.Assigned.{isKeptIn, keptOf, Fillable}
+use Rattle.marks.specs.Marks.{isMarked}
+use Rattle.transitions.specs.Assigned.{keptOf, Fillable}
 
 -- the front xs of length n, with one element more
 pub front-more : (xs out : List ℕ) (n a : ℕ) → length xs ≡ n → n < length out → set (xs ++ drop n out) n a ≡ (xs ++ a ∷ []) ++ drop (n + 1) out
@@ -71,7 +72,7 @@ module _ {order : List ℕ} {count : ℕ} {bytes out₀ : List ℕ} (a : Fillabl
   filling-begins = record { passed = omega arith; same-length = refl; filled-is = refl; out-is = refl }
 
   module _ {out : List ℕ} {filled i : ℕ} (f : Filling order count bytes out₀ out filled i) where
-    module _ (more : i < count) {so : Bool} (so-is : so ≡ isKeptIn bytes (getD order i 0)) where
+    module _ (more : i < count) {so : Bool} (so-is : so ≡ isMarked bytes (getD order i 0)) where
       -- one that is kept has room
       pub filling-room : so ≡ true → filled < length out
       filling-room e =
@@ -81,8 +82,8 @@ module _ {order : List ℕ} {count : ℕ} {bytes out₀ : List ℕ} (a : Fillabl
             arith,
             f .same-length,
             a .room,
-            count-step (isKeptIn bytes) order (omega arith) (f .filled-is) so-is,
-            count-grows (isKeptIn bytes) order (i + 1) count (omega arith),
+            count-step (isMarked bytes) order (omega arith) (f .filled-is) so-is,
+            count-grows (isMarked bytes) order (i + 1) count (omega arith),
           )
 
       pub filling-turns : {out′ : List ℕ} {filled′ : ℕ} → length out′ ≡ length out → out′ ≡ cond so (set out filled (getD order i 0)) out
@@ -94,8 +95,8 @@ module _ {order : List ℕ} {count : ℕ} {bytes out₀ : List ℕ} (a : Fillabl
           record {
             passed = omega arith;
             same-length = same ∙ f .same-length;
-            filled-is = e ∙ count-step (isKeptIn bytes) order h (f .filled-is) so-is;
-            out-is = d ∙ rw (f .out-is, e) (put-step (isKeptIn bytes) order i filled so out₀ h so-is (f .filled-is) fits);
+            filled-is = e ∙ count-step (isMarked bytes) order h (f .filled-is) so-is;
+            out-is = d ∙ rw (f .out-is, e) (put-step (isMarked bytes) order i filled so out₀ h so-is (f .filled-is) fits);
           }
 
     pub filling-ends : count ≤ i

@@ -6,7 +6,7 @@ use mathlib.Core.Path.{_≡_, refl, sym, ap, subst, _∙_}
 use mathlib.Core.Bool.{Bool, true, false, cond, not, true≢false}
 use mathlib.Core.List.{List, [], _∷_, map, List·Memᴰ, List·Memᴰ·head, List·Memᴰ·tail}
 use lib.Dec.{eqb}
-use lib.ListN.{length, length-map}
+use lib.ListN.{length}
 use Rattle.paper.specs.declared.Label.{Label}
 use Rattle.paper.specs.Lists.{those}
 use Rattle.paper.specs.Formula.{ℓ, same, has, Rising}
@@ -14,9 +14,9 @@ use Rattle.paper.specs.Order.{Once, OrderOf}
 use Rattle.paper.proofs.Bools.{or-right, not-so}
 use Rattle.paper.proofs.Lists.{those-lt}
 use Rattle.paper.proofs.Labels.{same-refl, same-eq, has-mem, has-head, has-those, those-has, rising-above}
-use Rattle.marks.specs.Marks.{AllBelow}
+use Rattle.marks.specs.Marks.{isMarked, AllBelow}
 use Rattle.transitions.specs.Kept.{bytesOf}
-use Rattle.transitions.specs.Assigned.{isKeptIn, keptOf}
+use Rattle.transitions.specs.Assigned.{keptOf}
 use Rattle.transitions.proofs.MarkedBytes.{bytes-at}
 
 pub those-same : {A : Type 0} {p q : A → Bool} (xs : List A) → ((a : A) → List·Memᴰ a xs → p a ≡ q a) → those p xs ≡ those q xs
@@ -25,8 +25,8 @@ those-same {p = p} {q = q} (x ∷ xs) e = rw (e x (List·Memᴰ·head refl), tho
 
 -- words below n, whose bytes are those of a test of labels
 module _ (p : Label → Bool) (n : ℕ) where
-  byte-says : (l : ℕ) → l < n → isKeptIn (bytesOf p n) l ≡ p (ℓ l)
-  unfolding isKeptIn
+  byte-says : (l : ℕ) → l < n → isMarked (bytesOf p n) l ≡ p (ℓ l)
+  unfolding isMarked
   byte-says l h = ap (λ b. eqb b 1) (bytes-at p n l h) ∙ go (p (ℓ l))
     where
       go : (t : Bool) → eqb (cond t 1 0) 1 ≡ t
@@ -84,11 +84,3 @@ as-many-ordered R p {A} {o} rises order =
   where
     moved : (xs ys : List Label) → ((l : Label) → has xs l ≡ true → has ys l ≡ true) → (l : Label) → has (those p xs) l ≡ true → has (those p ys) l ≡ true
     moved xs ys part l h = let (t, e) = those-has p xs l h in has-those p ys l (part l t) e
-
--- and so are their words
-pub words-as-many : (R : Label → Label → Bool) (n : ℕ) (p : Label → Bool) (chosen order : List ℕ) → Rising 0 (map ℓ chosen)
-    → OrderOf R (map ℓ chosen) (map ℓ order) → AllBelow n chosen → AllBelow n order
-    → length (keptOf (bytesOf p n) order) ≡ length (keptOf (bytesOf p n) chosen)
-words-as-many R n p chosen order rises o below below′ =
-    sym (length-map (keptOf (bytesOf p n) order) ℓ) ∙ ap length (kept-labels p n order below′) ∙ as-many-ordered R p rises o
-    ∙ ap length (sym (kept-labels p n chosen below)) ∙ length-map (keptOf (bytesOf p n) chosen) ℓ

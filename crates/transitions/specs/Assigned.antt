@@ -1,18 +1,13 @@
--- The labels of a list that are kept, in their order, where a byte says for each label whether it is (document 01,
--- "Assignments of transition k").
+-- The labels of a list that are kept, in their order, where a byte marks each label that is (document 01, "Assignments of
+-- transition k").
 use Prim.Native.Nat.{ℕ, _<_, _≤_}
-use mathlib.Core.Bool.{Bool}
 use mathlib.Core.List.{List}
-use lib.Dec.{eqb}
 use lib.ListN.{length, getD, take}
 use Rattle.paper.specs.Lists.{those}
-
--- label l is kept
-unfoldable pub isKeptIn : List ℕ → ℕ → Bool
-isKeptIn kept l = eqb (getD kept l 0) 1
+use Rattle.marks.specs.Marks.{isMarked}
 
 abbrev pub keptOf : List ℕ → List ℕ → List ℕ
-keptOf kept labels = those (isKeptIn kept) labels
+keptOf kept labels = those (isMarked kept) labels
 
 -- the first `count` labels of an order have a byte each, and there is room for those of them that are kept
 pub record Fillable (order : List ℕ) (count : ℕ) (kept out : List ℕ) : Type 0 where

@@ -4,13 +4,13 @@ ghost use mathlib.Core.Bool.{true, cond};
 ghost use mathlib.Core.List.{_++_};
 ghost use Prim.Native.Nat.{_+_, _<_};
 ghost use lib.ListN.{length, set, take, drop};
-ghost use Rattle.marks.specs.Marks.{AllBelow};
-ghost use Rattle.transitions.specs.Assigned.{isKeptIn, keptOf, Fillable};
+ghost use Rattle.marks.specs.Marks.{isMarked, AllBelow};
+ghost use Rattle.transitions.specs.Assigned.{keptOf, Fillable};
 
 // Whether a label is kept.
 fn is_kept(kept: &[u8], label: u16) -> bool
     requires { ⌜ label < length (now kept) ⌝ }
-    ensures { λ r. ⌜ r ≡ isKeptIn (now (kept .entry)) label ⌝ }
+    ensures { λ r. ⌜ r ≡ isMarked (now (kept .entry)) label ⌝ }
 {
     let i = label as usize;
     kept[i] == 1

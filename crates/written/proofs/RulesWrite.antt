@@ -194,12 +194,6 @@ module _ (rows reads : List ℕ) (#V #N : ℕ) (keeps : (i : ℕ) → i < #N →
       let k = kindOf rows i in
       node-writes (formulaAt rows reads d) i h (λ j a b c. rules-write d j b (omega arith)) (formOf k) refl (kind-is k) (kept-at i h .says)
 
-  -- So do the children from a row up to where they meet.
-  pub rules-write-all : (d more i stop : ℕ) → stop ≤ #N → stop - i ≤ d → meets rows stop i (suc more) ≡ true
-      → RowsWriteAll rows reads (childrenAt rows reads (formulaAt rows reads d) more i) i stop (suc more)
-  rules-write-all d more i stop n l m =
-      children-write rows reads (formulaAt rows reads d) more i stop (λ j a b c. rules-write d j (omega arith) (omega arith)) m
-
   -- All rows write one formula, which takes all the reads that are taken.
   pub record AllRowsWrite (f : Formula) : Type 0 where
     pub writes : Writes rows reads f 0 0
