@@ -28,11 +28,12 @@ use Rattle.strategy.specs.Judge.{judgedOf, judgedAs, answerOf, proposalIn, orde
 use Rattle.strategy.proofs.Held.{parts-of, chosen-rows}
 use Rattle.strategy.proofs.Strangers.{kinds-of}
 use Rattle.strategy.proofs.Placed.{order-length}
+use Rattle.filling.specs.declared.Filled.{Filled}
+use Rattle.filling.specs.Filling.{unlessShort, Fills}
 use Rattle.answers.specs.declared.Counts.{Counts}
 use Rattle.answers.specs.declared.Answer.{Answer}
 use Rattle.answers.specs.declared.Answer.the-variants as answer
-use Rattle.answers.specs.declared.Filled.{Filled}
-use Rattle.answers.specs.Requests.{judgeAnswer, judgeOf, FitCounts, reported, unlessShort, Fills, orderOutcome, orderOf, Ordered}
+use Rattle.answers.specs.Requests.{judgeAnswer, judgeOf, FitCounts, reported, orderOutcome, orderOf, Ordered}
 use Rattle.answers.proofs.Answers.{accepted-first}
 
 -- an acceptance comes from an acceptance

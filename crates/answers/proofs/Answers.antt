@@ -14,10 +14,11 @@ use Rattle.strategy.specs.declared.Accepted.{Accepted}
 use Rattle.strategy.specs.declared.Judged.{Judged}
 use Rattle.strategy.specs.declared.Judged.the-variants as judged
 use Rattle.strategy.specs.Judge.{judgedOf}
-use Rattle.answers.specs.declared.Length.{Length}
-use Rattle.answers.specs.declared.Filled.{Filled}
-use Rattle.answers.specs.declared.Filled.the-variants as filled
-use Rattle.answers.specs.Requests.{keyOf, marksOf, Outcome, refuses, fills, unlessShort, ofTransition, outcomeOf, filledOf, Fills}
+use Rattle.filling.specs.declared.Length.{Length}
+use Rattle.filling.specs.declared.Filled.{Filled}
+use Rattle.filling.specs.declared.Filled.the-variants as filled
+use Rattle.filling.specs.Filling.{Outcome, refuses, fills, unlessShort, filledOf, Fills}
+use Rattle.answers.specs.Requests.{keyOf, marksOf, ofTransition, outcomeOf}
 
 module _ (words : List ℕ) (j : Judged) (answered : j ≡ judgedOf words) where
   pub refused-first : (x : Refusal) (e : j ≡ judged.Refused x) (next : Layout → ℕ → Outcome) (lent : List ℕ)

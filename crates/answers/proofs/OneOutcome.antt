@@ -1,31 +1,16 @@
 -- For each public function, any two outcomes that its promise allows are equal: the answer, and every lent word or byte afterwards.
 use Prim.Native.Nat.{ℕ}
-use mathlib.Core.Path.{_≡_}
 use mathlib.Core.List.{List}
-use lib.ListN.{length, take}
-use Rattle.paper.specs.Outcome.{OneAnswer, OneOutcome}
-use Rattle.paper.proofs.Outcome.{by-equation}
+use lib.ListN.{length}
+use Rattle.paper.specs.Outcome.{OneOutcome}
+use Rattle.filling.specs.Filling.{Fills}
+use Rattle.filling.proofs.OneOutcome.{one-filling}
 use Rattle.strategy.specs.declared.Accepted.{Accepted}
-use Rattle.answers.specs.Requests.{Outcome, refuses, unlessShort, filledOf, after, transitionOutcome, assignmentsOutcome, Fills}
+use Rattle.answers.specs.Requests.{transitionOutcome, assignmentsOutcome}
 
-pub refused : (number place : ℕ) → OneAnswer (λ r. r ≡ filledOf (refuses number place))
-refused number place = by-equation (filledOf (refuses number place))
+module _ (lent words : List ℕ) (k : ℕ) (a : Accepted) where
+  pub transition-of : OneOutcome (λ left r. Fills (transitionOutcome words k (length lent) (a .layout) (a .transitions)) lent left r)
+  transition-of = one-filling lent (transitionOutcome words k (length lent) (a .layout) (a .transitions))
 
-module _ (lent : List ℕ) where
-  -- what a request does decides all
-  pub one-filling : (o : Outcome) → OneOutcome (λ left r. Fills o lent left r)
-  one-filling o left other r s p q =
-      (by-equation (filledOf o) r s (p .answered) (q .answered), by-equation (after o lent) left other (p .left-so) (q .left-so))
-
-  pub fill-words : (count : ℕ) (from : List ℕ) → OneOutcome (λ left r. Fills (unlessShort (length lent) (take count from)) lent left r)
-  fill-words count from = one-filling (unlessShort (length lent) (take count from))
-
-  pub fill-bytes : (n : ℕ) (from : List ℕ) → OneOutcome (λ left r. Fills (unlessShort (length lent) (take n from)) lent left r)
-  fill-bytes = fill-words
-
-  module _ (words : List ℕ) (k : ℕ) (a : Accepted) where
-    pub transition-of : OneOutcome (λ left r. Fills (transitionOutcome words k (length lent) (a .layout) (a .transitions)) lent left r)
-    transition-of = one-filling (transitionOutcome words k (length lent) (a .layout) (a .transitions))
-
-    pub assignments-of : OneOutcome (λ left r. Fills (assignmentsOutcome words k (length lent) (a .layout) (a .transitions)) lent left r)
-    assignments-of = one-filling (assignmentsOutcome words k (length lent) (a .layout) (a .transitions))
+  pub assignments-of : OneOutcome (λ left r. Fills (assignmentsOutcome words k (length lent) (a .layout) (a .transitions)) lent left r)
+  assignments-of = one-filling lent (assignmentsOutcome words k (length lent) (a .layout) (a .transitions))

@@ -1,10 +1,10 @@
 -- The four requests of document 01 ("Requests and what they give"): the answer to any words, and every lent word or byte
--- afterwards.
+-- afterwards. The last three fill a lent slice (crates/filling/specs/Filling.antt).
 use Prim.Native.Nat.{ℕ, _≤_, _<_}
 use mathlib.Core.Bool.{cond}
 use mathlib.Core.List.{List, [], _++_, map}
 use mathlib.Core.Path.{_≡_}
-use lib.Dec.{eqb, ltb, leb}
+use lib.Dec.{eqb, leb}
 use lib.ListN.{length, getD, take, drop}
 use Rattle.paper.specs.declared.Label.{Label}
 use Rattle.paper.specs.Lists.{those}
@@ -13,8 +13,8 @@ use Rattle.paper.specs.Before.{before}
 use Rattle.paper.specs.Order.{order}
 use Rattle.paper.specs.Transition.{keys, isKept}
 use Rattle.table.specs.declared.Layout.{Layout}
-use Rattle.table.specs.Sections.{refusal}
 use Rattle.written.specs.Tables.{formulaIn}
+use Rattle.filling.specs.Filling.{Outcome, refuses, unlessShort}
 use Rattle.strategy.specs.declared.Accepted.{Accepted}
 use Rattle.strategy.specs.declared.Judged.{Judged}
 use Rattle.strategy.specs.declared.Judged.the-variants as judged
@@ -22,8 +22,6 @@ use Rattle.strategy.specs.Judge.{judgedOf, proposalIn}
 use Rattle.answers.specs.declared.Counts.{Counts}
 use Rattle.answers.specs.declared.Answer.{Answer}
 use Rattle.answers.specs.declared.Answer.the-variants as answer
-use Rattle.answers.specs.declared.Filled.{Filled}
-use Rattle.answers.specs.declared.Filled.the-variants as filled
 
 -- Judge: V, N, S and the transition count, or a refusal
 abbrev pub judgeAnswer : Judged → Answer
@@ -60,15 +58,6 @@ module _ (words : List ℕ) (l : Layout) where
   abbrev pub assignedOf : ℕ → List ℕ
   assignedOf k = map (λ i. i .0) (those (has (keyOf k)) reported)
 
--- What a request that fills does with an accepted table: a refusal, or what stands at the front of the lent slice.
-pub data Outcome : Type 0 where
-  refuses : ℕ → ℕ → Outcome
-  fills : List ℕ → Outcome
-
--- 16: the lent slice is too short
-abbrev pub unlessShort : ℕ → List ℕ → Outcome
-unlessShort room ws = cond (ltb room (length ws)) (refuses 16 (length ws)) (fills ws)
-
 -- 15: number k is not below the count; 18: transition k has not V chosen labels
 abbrev pub unlessAbsent : ℕ → ℕ → ℕ → List Label → Outcome → Outcome
 unlessAbsent k count #V key next = cond (leb count k) (refuses 15 count) (cond (eqb (length key) #V) next (refuses 18 k))
@@ -91,15 +80,6 @@ unfoldable pub outcomeOf : Judged → (Layout → ℕ → Outcome) → Outcome
 outcomeOf (judged.Refused r) next = refuses (r .number) (r .place)
 outcomeOf (judged.Accepted a) next = next (a .layout) (a .transitions)
 
--- the answer, and the lent slice afterwards: a refusal leaves it as it was, and what lies beyond what is filled stays
-abbrev pub filledOf : Outcome → Filled
-filledOf (refuses number place) = filled.Refused (refusal number place)
-filledOf (fills ws) = filled.Done (record { count = length ws })
-
-abbrev pub after : Outcome → List ℕ → List ℕ
-after (refuses number place) out = out
-after (fills ws) out = ws ++ drop (length ws) out
-
 -- Order: the first S words. Transition k: the first N bytes. Assignments of transition k: V words.
 abbrev pub orderOf : List ℕ → ℕ → Outcome
 orderOf words room = outcomeOf (judgedOf words) (orderOutcome words room)
@@ -109,15 +89,6 @@ transitionOf words k room = outcomeOf (judgedOf words) (transitionOutcome words 
 
 abbrev pub assignmentsOf : List ℕ → ℕ → ℕ → Outcome
 assignmentsOf words k room = outcomeOf (judgedOf words) (assignmentsOutcome words k room)
-
--- what a request that fills answers and leaves
-pub record Fills (o : Outcome) (lent left : List ℕ) (r : Filled) : Type 0 where
-  pub answered : r ≡ filledOf o
-  pub left-so : left ≡ after o lent
-
--- the first n words or bytes of `from`, and then what stood behind them
-unfoldable pub copied : List ℕ → ℕ → List ℕ → List ℕ
-copied from n out = take n from ++ drop n out
 
 -- What an accepted table's requests fill: S words, N bytes, V words. Each of its transitions has V chosen labels, so 18 is never met.
 pub record Amounts (words : List ℕ) (a : Accepted) : Type 0 where

@@ -1,11 +1,12 @@
 // Transition k and its assignments, for a caller that has judged the words. 15, then 18, then 16; nothing is written before all
 // are passed.
 ghost use lib.ListN.{length};
-ghost use Rattle.answers.specs.Requests.{transitionOutcome, assignmentsOutcome, Fills, AcceptedAs, Ordered, Asked, Kept};
-use crate::Filled;
-use crate::filling::fill_bytes;
-use crate::filling::fill_words;
-use crate::filling::refused;
+ghost use Rattle.filling.specs.Filling.{Fills};
+ghost use Rattle.answers.specs.Requests.{transitionOutcome, assignmentsOutcome, AcceptedAs, Ordered, Asked, Kept};
+use filling::Filled;
+use filling::fill_bytes;
+use filling::fill_words;
+use filling::refused;
 use keys::keys_of;
 use marks::marks_of;
 use paper::Label;

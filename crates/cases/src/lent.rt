@@ -4,7 +4,7 @@ ghost use mathlib.Core.Path.{_≡_};
 ghost use Prim.Native.Nat.{_≤_, _<_};
 ghost use lib.ListN.{length};
 use crate::write;
-use answers::Filled;
+use filling::Filled;
 
 // The longest slice that is lent.
 pub const ROOM: usize = 4096;

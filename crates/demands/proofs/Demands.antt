@@ -37,9 +37,10 @@ use Rattle.strategy.proofs.Exactly.{accepted-exactly}
 use Rattle.strategy.proofs.Placed.{order-length}
 use Rattle.transitions.proofs.MarkedBytes.{bytes-at}
 use Rattle.transitions.proofs.Words.{those-same, as-many-ordered}
+use Rattle.filling.specs.Filling.{Outcome, refuses, fills, unlessShort}
 use Rattle.answers.specs.declared.Counts.{Counts}
 use Rattle.answers.specs.declared.Answer.the-variants as answer
-use Rattle.answers.specs.Requests.{judgeOf, judgeAnswer, Outcome, refuses, fills, unlessShort, unlessAbsent, outcomeOf}
+use Rattle.answers.specs.Requests.{judgeOf, judgeAnswer, unlessAbsent, outcomeOf}
 use Rattle.answers.specs.Requests.{orderOutcome, ofTransition, transitionOutcome, assignmentsOutcome}
 use Rattle.answers.specs.Requests.{reported, keyOf, markOf, marksOf, assignedOf}
 use Rattle.demands.specs.Demands.{RefusalWritesNothing, keysIn, JudgedExactly, TransitionsListed, CarriedOutInOrder, TrueByTransitions, AnyWordsJudged}

@@ -5,9 +5,10 @@ use Prim.Native.Nat.{ℕ}
 use mathlib.Core.List.{List, [], _∷_, map}
 use Rattle.net.specs.Prior.{upTo}
 use Rattle.table.specs.Sections.{refusal}
+use Rattle.filling.specs.Filling.{Outcome, refuses, fills}
 use Rattle.answers.specs.declared.Answer.{Answer}
 use Rattle.answers.specs.declared.Answer.the-variants as answer
-use Rattle.answers.specs.Requests.{judgeOf, orderOf, transitionOf, assignmentsOf, Outcome, refuses, fills}
+use Rattle.answers.specs.Requests.{judgeOf, orderOf, transitionOf, assignmentsOf}
 
 -- what judge, order, and for each k transition k and its assignments answer
 pub record Listing : Type 0 where

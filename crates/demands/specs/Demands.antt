@@ -21,11 +21,12 @@ use Rattle.table.specs.declared.Checked.the-variants.{Sound}
 use Rattle.table.specs.Sections.{checked}
 use Rattle.written.specs.Tables.{formulaIn}
 use Rattle.strategy.specs.Judge.{proposalIn}
+use Rattle.filling.specs.declared.Filled.the-variants as filled
+use Rattle.filling.specs.Filling.{Outcome, refuses, fills, Fills}
 use Rattle.answers.specs.declared.Counts.{Counts}
 use Rattle.answers.specs.declared.Answer.{Answer}
 use Rattle.answers.specs.declared.Answer.the-variants as answer
-use Rattle.answers.specs.declared.Filled.the-variants as filled
-use Rattle.answers.specs.Requests.{judgeOf, Outcome, refuses, fills, Fills, orderOf, transitionOf, assignmentsOf, reported, keyOf, marksOf, assignedOf}
+use Rattle.answers.specs.Requests.{judgeOf, orderOf, transitionOf, assignmentsOf, reported, keyOf, marksOf, assignedOf}
 
 -- Demand 1: every request has an answer, by its contract, which asks nothing of the caller; one that refuses leaves every lent
 -- word or byte as it was.

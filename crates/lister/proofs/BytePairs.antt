@@ -5,7 +5,7 @@ use native.Mathlib.Omega.{arith}
 use mathlib.Core.Path.{_≡_, refl, sym, _∙_}
 use mathlib.Core.List.{List, [], _∷_}
 use lib.ListN.{length, getD, set}
-use Rattle.answers.proofs.Copies.{Copying, copy-goes-on, copy-ends}
+use Rattle.filling.proofs.Copies.{Copying, copy-goes-on, copy-ends}
 use Rattle.lister.specs.Listing.{wordsOf}
 use Rattle.lister.specs.Steps.{WordsIn}
 

@@ -14,7 +14,8 @@ use Rattle.strategy.specs.declared.Accepted.{Accepted}
 use Rattle.strategy.specs.declared.Judged.{Judged}
 use Rattle.strategy.specs.declared.Judged.the-variants as judged
 use Rattle.strategy.specs.Judge.{JudgedInto, refusedAt}
-use Rattle.answers.specs.Requests.{reported, copied, Ordered}
+use Rattle.filling.specs.Filling.{copied}
+use Rattle.answers.specs.Requests.{reported, Ordered}
 use Rattle.answers.proofs.Accepted.{is-understood, few-transitions, few-chosen, reported-length, order-stands, order-as-long}
 use Rattle.answers.proofs.Keeping.{rows-lent, chosen-lent}
 use Rattle.lister.specs.Listing.{wordsOf, judgedBytes}

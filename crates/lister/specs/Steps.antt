@@ -12,7 +12,8 @@ use Rattle.strategy.specs.declared.Accepted.{Accepted}
 use Rattle.strategy.specs.declared.Judged.{Judged}
 use Rattle.strategy.specs.declared.Judged.the-variants as judged
 use Rattle.strategy.specs.Judge.{proposalIn}
-use Rattle.answers.specs.Requests.{copied, Ordered}
+use Rattle.filling.specs.Filling.{copied}
+use Rattle.answers.specs.Requests.{Ordered}
 use Rattle.listing.specs.Placed.{Put}
 use Rattle.lister.specs.declared.lines.Part.{Part}
 use Rattle.lister.specs.Listing.{wordsOf, judgedBytes, linesFrom}

@@ -5,8 +5,9 @@ use mathlib.Core.List.{List}
 use lib.ListN.{length}
 use Rattle.paper.specs.Outcome.{OneAnswer, OneOutcome}
 use Rattle.paper.proofs.Outcome.{by-equation}
-use Rattle.answers.specs.Requests.{Outcome, judgeOf, filledOf, after, orderOf, transitionOf, assignmentsOf, Fills}
-use Rattle.answers.proofs.OneOutcome.{one-filling}
+use Rattle.filling.specs.Filling.{Outcome, filledOf, after, Fills}
+use Rattle.filling.proofs.OneOutcome.{one-filling}
+use Rattle.answers.specs.Requests.{judgeOf, orderOf, transitionOf, assignmentsOf}
 use Rattle.nocturenc.specs.Packed.{packedAnswer, packedFilled, FillsPacked}
 
 one-packed : (lent : List ℕ) (o : Outcome) → OneOutcome (λ left r. FillsPacked o lent left r)

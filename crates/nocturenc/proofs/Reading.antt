@@ -2,9 +2,9 @@
 use Prim.Native.Nat.{_<_, _≤_, _^_}
 use native.Mathlib.Omega.{arith}
 use Rattle.table.specs.declared.Refusal.{Refusal}
+use Rattle.filling.specs.declared.Length.{Length}
+use Rattle.filling.specs.declared.Filled.the-variants as filled
 use Rattle.answers.specs.declared.Counts.{Counts}
-use Rattle.answers.specs.declared.Length.{Length}
-use Rattle.answers.specs.declared.Filled.the-variants as filled
 use Rattle.answers.specs.Requests.{FitCounts}
 use Rattle.nocturenc.specs.Packed.{refusedAs, countsOf, packedFilled, ReadRefusal, ReadCounts, ReadFilled}
 

@@ -5,13 +5,13 @@ use Prim.Native.Nat.{ℕ, _+_, _*_, _/_, _%_, _^_}
 use mathlib.Core.List.{List}
 use mathlib.Core.Path.{_≡_}
 use Rattle.table.specs.declared.Refusal.{Refusal}
+use Rattle.filling.specs.declared.Length.{Length}
+use Rattle.filling.specs.declared.Filled.{Filled}
+use Rattle.filling.specs.declared.Filled.the-variants as filled
+use Rattle.filling.specs.Filling.{Outcome, filledOf, after}
 use Rattle.answers.specs.declared.Counts.{Counts}
 use Rattle.answers.specs.declared.Answer.{Answer}
 use Rattle.answers.specs.declared.Answer.the-variants as answer
-use Rattle.answers.specs.declared.Length.{Length}
-use Rattle.answers.specs.declared.Filled.{Filled}
-use Rattle.answers.specs.declared.Filled.the-variants as filled
-use Rattle.answers.specs.Requests.{Outcome, filledOf, after}
 
 abbrev pub refusedAs : ℕ → ℕ → ℕ
 refusedAs number place = number * 2 ^ 56 + place

@@ -9,7 +9,7 @@ use crate::requests::order;
 use crate::requests::transition;
 use answers::Answer;
 use answers::Counts;
-use answers::Filled;
+use filling::Filled;
 use table::Refusal;
 
 // A refusal: its number in the top byte, its place in the low 32 bits.

@@ -1,13 +1,14 @@
 // The requests. Each judges the whole table first; a refusal writes nothing.
 ghost use mathlib.Core.Path.{_≡_};
 ghost use lib.ListN.{length};
-ghost use Rattle.answers.specs.Requests.{judgeOf, orderOf, transitionOf, assignmentsOf, Fills};
+ghost use Rattle.filling.specs.Filling.{Fills};
+ghost use Rattle.answers.specs.Requests.{judgeOf, orderOf, transitionOf, assignmentsOf};
 use answers::Answer;
 use answers::Counts;
-use answers::Filled;
-use answers::filling::fill_words;
 use answers::judged::assignments_of;
 use answers::judged::transition_of;
+use filling::Filled;
+use filling::fill_words;
 use strategy::Judged;
 use strategy::judge_into;
 

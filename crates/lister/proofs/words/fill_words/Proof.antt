@@ -3,7 +3,7 @@ use Prim.Native.Nat.{_-_, _/_}
 use native.Mathlib.Omega.{arith}
 use borrow.Author.Needs.{needs}
 use lib.ListN.{length}
-use Rattle.answers.proofs.Copies.{Copying, copy-starts}
+use Rattle.filling.proofs.Copies.{Copying, copy-starts}
 use Rattle.lister.specs.Listing.{wordsOf}
 use Rattle.lister.proofs.BytePairs.{word-put, words-in}
 use Rattle.lister.proofs.words.fill_words.Statement.{statement}

@@ -1,11 +1,20 @@
-// The end of a request that fills: a refusal, or what stands at the front of the lent slice.
+// The lent slice and the answer of a request that fills: a refusal, or what stands at the front of the slice.
 ghost use mathlib.Core.Path.{_≡_};
 ghost use Prim.Native.Nat.{_≤_};
 ghost use lib.ListN.{length, take};
-ghost use Rattle.answers.specs.Requests.{refuses, unlessShort, filledOf, copied, Fills};
-use crate::Filled;
-use crate::Length;
+ghost use Rattle.filling.specs.Filling.{refuses, unlessShort, filledOf, copied, Fills};
 use table::Refusal;
+
+// How many words or bytes a request filled.
+pub struct Length {
+    pub count: usize,
+}
+
+// The answer to a request that fills a lent slice.
+pub enum Filled {
+    Done(Length),
+    Refused(Refusal),
+}
 
 // A refusal as the answer of a request that fills.
 pub fn refused(number: u8, place: usize) -> Filled

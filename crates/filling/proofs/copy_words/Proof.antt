@@ -1,9 +1,9 @@
 -- The invariant: the entries before i are copied, and the others are as they were.
 use Prim.Native.Nat.{_-_}
 use borrow.Author.Needs.{needs}
-use Rattle.answers.proofs.Copies.{Copying, copy-starts, copy-goes-on, copy-ends}
-use Rattle.answers.proofs.filling.copy_bytes.Statement.{statement}
-use Rattle.answers.proofs.filling.copy_bytes.Tie as tie
+use Rattle.filling.proofs.Copies.{Copying, copy-starts, copy-goes-on, copy-ends}
+use Rattle.filling.proofs.copy_words.Statement.{statement}
+use Rattle.filling.proofs.copy_words.Tie as tie
 
 abbrev Inv-loop : tie.InvT-loop
 Inv-loop from count out₀ i₀ out i = Copying from count out₀ out i
@@ -14,8 +14,14 @@ abbrev μ-loop : tie.MeasureT-loop
 loop-holds : tie.Need-loop-holds Inv-loop μ-loop
 loop-holds c = copy-starts _ _ _
 
+mul-out : tie.Need-mul-out Inv-loop μ-loop
+mul-out c = search needs
+
 element-copy-out-out : tie.Need-element-copy-out-out Inv-loop μ-loop
 element-copy-out-out c = search needs
+
+mul-out-2 : tie.Need-mul-out-2 Inv-loop μ-loop
+mul-out-2 c = search needs
 
 slice-write-out : tie.Need-slice-write-out Inv-loop μ-loop
 slice-write-out c = search needs
@@ -37,14 +43,16 @@ same-length c = search needs
 returns : tie.Need-returns Inv-loop μ-loop
 returns c = copy-ends _ _ _ _ _ (c .loop-test .left) (c .before .loop .inv)
 
-pub copy-bytes-spec : {M : Type 1} → statement M
-copy-bytes-spec =
+pub copy-words-spec : {M : Type 1} → statement M
+copy-words-spec =
     tie.close
     (tie.spec
     Inv-loop
     μ-loop
     loop-holds
+    mul-out
     element-copy-out-out
+    mul-out-2
     slice-write-out
     add-i
     loop-less

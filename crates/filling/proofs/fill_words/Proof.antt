@@ -1,8 +1,8 @@
 -- Refused for want of room, or copied.
 use borrow.Author.Needs.{needs}
-use Rattle.answers.proofs.Copies.{too-short, filled-front}
-use Rattle.answers.proofs.filling.fill_words.Statement.{statement}
-use Rattle.answers.proofs.filling.fill_words.Tie as tie
+use Rattle.filling.proofs.Copies.{too-short, filled-front}
+use Rattle.filling.proofs.fill_words.Statement.{statement}
+use Rattle.filling.proofs.fill_words.Tie as tie
 
 refused-requires : tie.Need-refused-requires
 refused-requires c κs = search needs

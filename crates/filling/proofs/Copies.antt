@@ -8,9 +8,9 @@ use mathlib.Core.List.{List, _++_}
 use lib.ListN.{length, getD, take, drop, set, length-set}
 use lib.Seq.{drop-cons, take-suc, set-at, append-snoc, length-take-le}
 use borrow.Author.Tests.{lt-ltb, le-ltb}
-use Rattle.answers.specs.declared.Filled.{Filled}
-use Rattle.answers.specs.declared.Filled.the-variants as filled
-use Rattle.answers.specs.Requests.{refuses, unlessShort, filledOf, copied, Fills}
+use Rattle.filling.specs.declared.Filled.{Filled}
+use Rattle.filling.specs.declared.Filled.the-variants as filled
+use Rattle.filling.specs.Filling.{refuses, unlessShort, filledOf, copied, Fills}
 
 pub copied-none : (from out : List ℕ) → out ≡ copied from 0 out
 unfolding copied

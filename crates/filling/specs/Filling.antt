@@ -1,0 +1,38 @@
+-- A request that fills a lent slice (document 01, "Requests and what they give"): it refuses and leaves the slice as it was, or it
+-- writes at the slice's front and leaves what lies beyond.
+use Prim.Native.Nat.{ℕ}
+use mathlib.Core.Bool.{cond}
+use mathlib.Core.List.{List, _++_}
+use mathlib.Core.Path.{_≡_}
+use lib.Dec.{ltb}
+use lib.ListN.{length, take, drop}
+use Rattle.table.specs.Sections.{refusal}
+use Rattle.filling.specs.declared.Filled.{Filled}
+use Rattle.filling.specs.declared.Filled.the-variants as filled
+
+-- What a request that fills does: a refusal, with its number and place, or what stands at the front of the lent slice.
+pub data Outcome : Type 0 where
+  refuses : ℕ → ℕ → Outcome
+  fills : List ℕ → Outcome
+
+-- 16: the lent slice is too short
+abbrev pub unlessShort : ℕ → List ℕ → Outcome
+unlessShort room ws = cond (ltb room (length ws)) (refuses 16 (length ws)) (fills ws)
+
+-- the answer, and the lent slice afterwards: a refusal leaves it as it was, and what lies beyond what is filled stays
+abbrev pub filledOf : Outcome → Filled
+filledOf (refuses number place) = filled.Refused (refusal number place)
+filledOf (fills ws) = filled.Done (record { count = length ws })
+
+abbrev pub after : Outcome → List ℕ → List ℕ
+after (refuses number place) out = out
+after (fills ws) out = ws ++ drop (length ws) out
+
+-- what a request that fills answers and leaves
+pub record Fills (o : Outcome) (lent left : List ℕ) (r : Filled) : Type 0 where
+  pub answered : r ≡ filledOf o
+  pub left-so : left ≡ after o lent
+
+-- the first n words or bytes of `from`, and then what stood behind them
+unfoldable pub copied : List ℕ → ℕ → List ℕ → List ℕ
+copied from n out = take n from ++ drop n out
