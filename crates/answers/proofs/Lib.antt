@@ -1,4 +1,5 @@
 pub mod Answers
 pub mod Accepted
 pub mod Keeping
+pub mod Amounts
 pub mod OneOutcome

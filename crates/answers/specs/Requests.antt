@@ -14,6 +14,8 @@ use Rattle.paper.specs.Order.{order}
 use Rattle.paper.specs.Transition.{keys, isKept}
 use Rattle.table.specs.declared.Layout.{Layout}
 use Rattle.written.specs.Tables.{formulaIn}
+use Rattle.filling.specs.declared.Filled.{Filled}
+use Rattle.filling.specs.declared.Filled.the-variants as filled
 use Rattle.filling.specs.Filling.{Outcome, refuses, unlessShort}
 use Rattle.strategy.specs.declared.Accepted.{Accepted}
 use Rattle.strategy.specs.declared.Judged.{Judged}
@@ -38,6 +40,11 @@ pub record FitCounts (c : Counts) : Type 0 where
   pub rows-fit : c .rows ≤ 4096
   pub chosen-fit : c .chosen ≤ 4096
   pub transitions-fit : c .transitions ≤ 65535
+
+-- the bound of what a request fills: S words, N bytes or V words
+abbrev pub FitFilled : Filled → Type 0
+FitFilled (filled.Done l) = l .count ≤ 4096
+FitFilled (filled.Refused r) = Unit {0}
 
 -- The formula and the proposal of words laid out so, the reported order, and transition k: its key, its kept labels.
 module _ (words : List ℕ) (l : Layout) where

@@ -1,26 +1,37 @@
--- C can take every packed answer apart again: each part has its own bits.
-use Prim.Native.Nat.{_<_, _≤_, _^_}
+-- What C reads from a packed answer is what was packed: each part has its own bits.
+use Prim.Native.Nat.{ℕ, _≤_}
 use native.Mathlib.Omega.{arith}
+use mathlib.Core.Path.{_≡_, refl}
 use Rattle.table.specs.declared.Refusal.{Refusal}
 use Rattle.filling.specs.declared.Length.{Length}
 use Rattle.filling.specs.declared.Filled.the-variants as filled
 use Rattle.answers.specs.declared.Counts.{Counts}
+use Rattle.answers.specs.declared.Answer.the-variants as answer
 use Rattle.answers.specs.Requests.{FitCounts}
-use Rattle.nocturenc.specs.Packed.{refusedAs, countsOf, packedFilled, ReadRefusal, ReadCounts, ReadFilled}
+use Rattle.nocturenc.specs.Packed.{refusedAs, countsOf, packedAnswer, packedFilled, ReadRefusal, ReadFilling, Answers}
 
-pub read-refusal : (r : Refusal) → r .number < 2 ^ 8 → r .place < 2 ^ 32 → ReadRefusal r (refusedAs (r .number) (r .place))
-read-refusal r h i = record { number-is = omega arith; between = omega arith; place-is = omega arith }
-
-pub read-counts : (c : Counts) → FitCounts c → ReadCounts c (countsOf c)
-read-counts c h = record {
-  no-refusal = omega arith;
-  variables-are = omega arith;
-  rows-are = omega arith;
-  chosen-are = omega arith;
-  transitions-are = omega arith;
+pub read-counts : (c : Counts) (n : ℕ) → FitCounts c → n ≡ countsOf c → Answers (answer.Accepted c) n
+unfolding packedAnswer
+read-counts c n h e = record {
+  answered = e;
+  read-so = record {
+    no-refusal = omega arith;
+    variables-are = omega arith;
+    rows-are = omega arith;
+    chosen-are = omega arith;
+    transitions-are = omega arith;
+  };
 }
 
--- no request fills more than 4,096 words or bytes: S, N or V (`amounts` in crates/answers/proofs/Keeping.antt)
-pub read-filled : (l : Length) → l .count ≤ 4096 → ReadFilled l (packedFilled (filled.Done l))
+pub read-refused : (r : Refusal) (n : ℕ) → n ≡ refusedAs (r .number) (r .place) → ReadRefusal r n → Answers (answer.Refused r) n
+unfolding packedAnswer
+read-refused r n e h = record { answered = e; read-so = h }
+
+pub read-filled : (l : Length) → l .count ≤ 4096 → (l .count ≡ packedFilled (filled.Done l)) × ReadFilling (filled.Done l) (l .count)
 unfolding packedFilled
-read-filled l h = record { no-refusal = omega arith; count-is = omega arith }
+read-filled l h = (refl, record { no-refusal = omega arith; count-is = refl })
+
+pub read-unfilled : (r : Refusal) (n : ℕ) → n ≡ refusedAs (r .number) (r .place) → ReadRefusal r n
+    → (n ≡ packedFilled (filled.Refused r)) × ReadFilling (filled.Refused r) n
+unfolding packedFilled
+read-unfilled r n e h = (e, h)

@@ -27,11 +27,6 @@ unfoldable pub packedFilled : Filled → ℕ
 packedFilled (filled.Done l) = l .count
 packedFilled (filled.Refused r) = refusedAs (r .number) (r .place)
 
--- what a request that fills answers in one number, and leaves
-pub record FillsPacked (o : Outcome) (lent left : List ℕ) (n : ℕ) : Type 0 where
-  pub answered : n ≡ packedFilled (filledOf o)
-  pub left-so : left ≡ after o lent
-
 -- what C reads from an answer: the refusal number and its place, with 0 in the bits between; the counts, where it is accepted;
 -- the number of words or bytes filled, where a request filled them
 pub record ReadRefusal (r : Refusal) (n : ℕ) : Type 0 where
@@ -49,3 +44,21 @@ pub record ReadCounts (c : Counts) (n : ℕ) : Type 0 where
 pub record ReadFilled (l : Length) (n : ℕ) : Type 0 where
   pub no-refusal : n / 2 ^ 56 ≡ 0
   pub count-is : n ≡ l .count
+
+abbrev pub ReadAnswer : Answer → ℕ → Type 0
+ReadAnswer (answer.Accepted c) n = ReadCounts c n
+ReadAnswer (answer.Refused r) n = ReadRefusal r n
+
+abbrev pub ReadFilling : Filled → ℕ → Type 0
+ReadFilling (filled.Done l) n = ReadFilled l n
+ReadFilling (filled.Refused r) n = ReadRefusal r n
+
+-- an answer in one number, from which it can be read; and what a request that fills leaves
+pub record Answers (a : Answer) (n : ℕ) : Type 0 where
+  pub answered : n ≡ packedAnswer a
+  pub read-so : ReadAnswer a n
+
+pub record FillsPacked (o : Outcome) (lent left : List ℕ) (n : ℕ) : Type 0 where
+  pub answered : n ≡ packedFilled (filledOf o)
+  pub read-so : ReadFilling (filledOf o) n
+  pub left-so : left ≡ after o lent

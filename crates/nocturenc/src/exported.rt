@@ -1,8 +1,8 @@
 // The requests for C: the words, the lent slice and the number k come in, and each answer goes out packed in one number.
 ghost use mathlib.Core.Path.{_≡_};
 ghost use lib.ListN.{length};
-ghost use Rattle.answers.specs.Requests.{judgeOf, FitCounts, orderOf, transitionOf, assignmentsOf};
-ghost use Rattle.nocturenc.specs.Packed.{refusedAs, countsOf, packedAnswer, packedFilled, FillsPacked};
+ghost use Rattle.answers.specs.Requests.{judgeOf, FitCounts, FitFilled, orderOf, transitionOf, assignmentsOf};
+ghost use Rattle.nocturenc.specs.Packed.{refusedAs, countsOf, packedFilled, ReadRefusal, ReadFilling, Answers, FillsPacked};
 use crate::requests::assignments;
 use crate::requests::judge;
 use crate::requests::order;
@@ -15,6 +15,7 @@ use table::Refusal;
 // A refusal: its number in the top byte, its place in the low 32 bits.
 fn packed_refusal(r: Refusal) -> u64
     ensures { λ n. ⌜ n ≡ refusedAs (r .number) (r .place) ⌝ }
+    ensures { λ n. ⌜ ReadRefusal r n ⌝ }
 {
     (r.number as u64) * 72057594037927936 + (r.place as u64)
 }
@@ -31,7 +32,9 @@ fn packed_counts(c: Counts) -> u64
 
 // The answer of a request that fills.
 fn packed_filled(f: Filled) -> u64
+    requires { ⌜ FitFilled f ⌝ }
     ensures { λ n. ⌜ n ≡ packedFilled f ⌝ }
+    ensures { λ n. ⌜ ReadFilling f n ⌝ }
 {
     match f {
         Filled::Done(l) => l.count as u64,
@@ -42,7 +45,7 @@ fn packed_filled(f: Filled) -> u64
 // Judges a table.
 #[no_mangle]
 pub extern "C" fn nocturenc_judge(words: &[u16]) -> u64
-    ensures { λ r. ⌜ r ≡ packedAnswer (judgeOf (now (words .entry))) ⌝ }
+    ensures { λ r. ⌜ Answers (judgeOf (now (words .entry))) r ⌝ }
 {
     let answer = judge(words);
     match answer {

@@ -2,7 +2,7 @@
 -- turn keeps it, and that a child that takes part does so in one of its own keys.
 use Prim.Native.Nat.{ℕ, _-_, _*_, _/_, _<_, _≤_}
 use native.Mathlib.Omega.{arith}
-use native.Mathlib.Nat.{mul-le-mul-left, mod-lt, div-eq-of-eq-mul-right, div-lt-iff-lt-mul}
+use native.Mathlib.Nat.{mul-le-mul-left, mul-le-mul-right, mod-lt, div-eq-of-eq-mul-right, div-lt-iff-lt-mul}
 use mathlib.Core.Path.{_≡_, refl}
 use mathlib.Core.Bool.{Bool, true, false, false≢true}
 use mathlib.Core.List.{List, _∷_}
@@ -25,6 +25,7 @@ pub record Divided (all n p : ℕ) : Type 0 where
   pub some : 0 < n
   pub others : 0 < p
   pub first-within : n ≤ all
+  pub others-within : p ≤ all
   pub rest : all / n ≡ p
 
 pub divided : {k all n p : ℕ} → all ≡ n * p → k < all → Divided all n p
@@ -34,6 +35,7 @@ divided {k} {all} {n} {p} e h =
       some = some;
       others = others;
       first-within = omega (arith, mul-le-mul-left n others);
+      others-within = omega (arith, mul-le-mul-right p some);
       rest = div-eq-of-eq-mul-right some e;
     }
 

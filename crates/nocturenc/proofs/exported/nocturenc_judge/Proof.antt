@@ -1,8 +1,9 @@
 -- The counts of an accepted table fit their bits, and the answer is packed case by case.
-use mathlib.Core.Path.{sym, ap, _∙_}
+use mathlib.Core.Path.{sym, subst, _∙_}
 use borrow.Author.Needs.{needs}
-use Rattle.nocturenc.specs.Packed.{packedAnswer}
+use Rattle.nocturenc.specs.Packed.{Answers}
 use Rattle.answers.proofs.Accepted.{counts-fit}
+use Rattle.nocturenc.proofs.Reading.{read-counts, read-refused}
 use Rattle.nocturenc.proofs.exported.nocturenc_judge.Statement.{statement}
 use Rattle.nocturenc.proofs.exported.nocturenc_judge.Tie as tie
 
@@ -22,12 +23,17 @@ packed-refusal-requires : tie.Need-packed-refusal-requires
 packed-refusal-requires c κs = search needs
 
 returns : tie.Need-returns
-unfolding packedAnswer
-returns c = c .packed-counts .ensures ∙ ap packedAnswer (sym (c .before .before .answer .given .1) ∙ c .before .before .before .before .judge .ensures)
+returns c =
+    let e = sym (c .before .before .answer .given .1) ∙ c .before .before .before .before .judge .ensures in
+    let n = c .packed-counts .result in
+    subst (λ a. Answers a n) e (read-counts _ n (counts-fit _ _ (sym e)) (c .packed-counts .ensures))
 
 returns-2 : tie.Need-returns-2
-unfolding packedAnswer
-returns-2 c = c .packed-refusal .ensures ∙ ap packedAnswer (sym (c .before .before .answer2 .given .1) ∙ c .before .before .before .before .judge .ensures)
+returns-2 c =
+    let e = sym (c .before .before .answer2 .given .1) ∙ c .before .before .before .before .judge .ensures in
+    let n = c .packed-refusal .result in
+    let p = c .packed-refusal .ensures in
+    subst (λ a. Answers a n) e (read-refused _ n (p .0) (p .1))
 
 pub nocturenc-judge-spec : {M : Type 1} → statement M
 nocturenc-judge-spec =
