@@ -1,27 +1,17 @@
 -- Document 01's listing is the value of the definitions, at the bytes of the table that stands above it ("A listing, whole"); and so
 -- are the lines of a refusal for no bytes ("No words: 1 at 0") and for one byte (refusal 17).
-use Prim.Native.Nat.{ℕ}
 use mathlib.Core.Path.{_≡_, refl}
-use mathlib.Core.List.{List, [], _∷_}
+use mathlib.Core.List.{[], _∷_}
 use Rattle.entries.specs.First.{first}
 use Rattle.rows.specs.Rows.{formOf, meets, takenBefore, falseRule, starRule, candidateRule, joinRule, boundRule, endsWithin, keepsRules, roundOf}
 use Rattle.entries.specs.Entries.{ascend}
 use Rattle.table.specs.Sections.{openAt, variablesAt, readsAt, rowsAt, strategyAt, endAt, sections, checked}
 use Rattle.rows.specs.Formula.{starAt, childrenAt, nodeAt, formulaAt}
-use Rattle.written.specs.Example.{wordsOfP}
 use Rattle.strategy.specs.Judge.{judgedOf}
 use Rattle.listing.specs.Text.{ascii, digits, decimal, fields, acceptedLine, orderLine, transitionLine, refusedLine}
-use Rattle.lister.specs.Listing.{wordsOf, judgedBytes, lineOf, linesFrom, listingOf}
-
-abbrev bytesOfP : List ℕ
-bytesOfP =
-    2 ∷ 0 ∷ 40 ∷ 0 ∷ 44 ∷ 1 ∷ 1 ∷ 0 ∷ 0 ∷ 0 ∷ 8 ∷ 0 ∷ 3 ∷ 0 ∷ 2 ∷ 0 ∷ 8 ∷ 0 ∷ 0 ∷ 0 ∷ 2 ∷ 0 ∷ 0 ∷ 0 ∷ 3 ∷ 0 ∷ 0 ∷ 0
-    ∷ 1 ∷ 0 ∷ 0 ∷ 0 ∷ 3 ∷ 0 ∷ 0 ∷ 0 ∷ 4 ∷ 0 ∷ 2 ∷ 0 ∷ 8 ∷ 0 ∷ 0 ∷ 0 ∷ 2 ∷ 0 ∷ 1 ∷ 0 ∷ 6 ∷ 0 ∷ 0 ∷ 0 ∷ 1 ∷ 0 ∷ 1 ∷ 0
-    ∷ 6 ∷ 0 ∷ 0 ∷ 0 ∷ 2 ∷ 0 ∷ 1 ∷ 0 ∷ 8 ∷ 0 ∷ 1 ∷ 0 ∷ 1 ∷ 0 ∷ 0 ∷ 0 ∷ 8 ∷ 0 ∷ 1 ∷ 0 ∷ 3 ∷ 0 ∷ 1 ∷ 0 ∷ 4 ∷ 0 ∷ 6 ∷ 0 ∷ []
-
-words-of-P : wordsOf bytesOfP ≡ wordsOfP
-unfolding wordsOf
-words-of-P = refl
+use Rattle.bytes.specs.Bytes.{wordsOf, judgedBytes}
+use Rattle.bytes.specs.Example.{bytesOfP}
+use Rattle.lister.specs.Listing.{lineOf, linesFrom, listingOf}
 
 pub listings : (listingOf bytesOfP ≡ ascii "accepted 2 8 3 2\norder 1 4 6\n0 assign 1 4 keep 1 4\n1 assign 1 6 keep 1 6\n")
     × (listingOf [] ≡ ascii "refused 1 0\n") × (listingOf (2 ∷ []) ≡ ascii "refused 17 0\n")

@@ -1,5 +1,4 @@
-pub mod BytePairs
-pub mod BytesJudged
+pub mod Asked
 pub mod LinesPut
 pub mod Example
 pub mod InParts

@@ -1,39 +1,21 @@
--- What the lister's functions ask for and leave: the words of the bytes, the judgement, and the parts of the listing.
-use Prim.Native.Nat.{ℕ, _+_, _-_, _*_, _/_, _<_, _≤_}
+-- What the lister's functions ask for and leave: accepted bytes with their words and their order, and the parts of the listing.
+use Prim.Native.Nat.{ℕ, _+_, _-_, _*_, _<_, _≤_}
 use mathlib.Core.List.{List}
 use mathlib.Core.Path.{_≡_}
-use lib.ListN.{length, take}
+use lib.ListN.{length}
 use Rattle.table.specs.declared.Layout.{Layout}
 use Rattle.table.specs.Sections.{rowsIn}
 use Rattle.keys.specs.declared.Distinct.{Distinct}
 use Rattle.marks.specs.Marks.{Marked}
 use Rattle.keys.specs.Keys.{keysAt}
 use Rattle.strategy.specs.declared.Accepted.{Accepted}
-use Rattle.strategy.specs.declared.Judged.{Judged}
 use Rattle.strategy.specs.declared.Judged.the-variants as judged
 use Rattle.strategy.specs.Judge.{proposalIn}
-use Rattle.filling.specs.Filling.{copied}
+use Rattle.bytes.specs.Bytes.{wordsOf, judgedBytes}
 use Rattle.answers.specs.Requests.{Ordered}
 use Rattle.listing.specs.Placed.{Put}
 use Rattle.lister.specs.declared.lines.Part.{Part}
-use Rattle.lister.specs.Listing.{wordsOf, judgedBytes, linesFrom}
-
--- the words of the bytes stand in front of what was there, and how many they are
-pub record WordsIn (bytes lent left : List ℕ) (count : ℕ) : Type 0 where
-  pub many : count ≡ length (wordsOf bytes)
-  pub half : count ≡ length bytes / 2
-  pub stand : left ≡ copied (wordsOf bytes) count lent
-
--- the words of accepted bytes, and their reported order, each in front
-pub record Ready (bytes words order : List ℕ) (a : Accepted) : Type 0 where
-  pub words-stand : take (length bytes / 2) words ≡ wordsOf bytes
-  pub ordered : Ordered (wordsOf bytes) a order
-  pub order-long : length order ≡ 2048
-
--- the answer to the bytes, and what is ready where they are accepted
-pub record JudgedBytes (bytes words order : List ℕ) (r : Judged) : Type 0 where
-  pub answered : r ≡ judgedBytes bytes
-  pub ready : (a : Accepted) → r ≡ judged.Accepted a → Ready bytes words order a
+use Rattle.lister.specs.Listing.{linesFrom}
 
 -- the words of bytes that are accepted so, with their reported order in front
 pub record Accepts (bytes words : List ℕ) (a : Accepted) (order : List ℕ) : Type 0 where

@@ -1,12 +1,10 @@
 // The lister: reads a table on standard input, and prints its listing or one line of a refusal (document 01, "A listing, whole").
-mod judging; // the bytes read, judged
 mod lines; // the lines of the transitions, put into a lent buffer
 mod parts; // the parts of a listing, written out one after another
-mod words; // the words of bytes
 
 ghost use Prim.Native.Nat.{_≤_};
 ghost use lib.ListN.{length};
-use judging::judge_bytes;
+use bytes::judging::judge_bytes;
 use libc::STDIN_FILENO;
 use parts::list_accepted;
 use parts::list_refused;

@@ -1,7 +1,8 @@
 -- Accepted bytes are listed by their words and their order, which the judgement leaves.
-use mathlib.Core.Path.{sym, _∙_}
+use mathlib.Core.Path.{refl, sym, _∙_}
 use borrow.Author.Needs.{needs}
 use lib.Seq.{length-take-le}
+use Rattle.lister.proofs.Asked.{accepted-bytes, order-long}
 use Rattle.lister.proofs.list.Statement.{statement}
 use Rattle.lister.proofs.list.Tie as tie
 
@@ -24,15 +25,13 @@ slice-aggregate-list-accepted-2 : tie.Need-slice-aggregate-list-accepted-2
 slice-aggregate-list-accepted-2 c =
     let j = c .before .before .before in
     let ju = j .before .before .before in
-    sym (ju .judge-bytes .ensures .ready _ (j .judged .given .1) .order-long)
+    sym (order-long (ju .judge-bytes .ensures) (j .judged .given .1) refl)
 
 list-accepted-requires : tie.Need-list-accepted-requires
 list-accepted-requires c κs =
     let ju = c .before .before .before in
     let jud = ju .before .before .before in
-    let j = jud .judge-bytes .ensures in
-    let r = j .ready _ (ju .judged .given .1) in
-    record { judged-so = sym (j .answered) ∙ ju .judged .given .1; words-are = r .words-stand; ordered = rw (r .words-stand) (r .ordered) }
+    accepted-bytes (jud .judge-bytes .ensures) (ju .judged .given .1)
 
 enum-known-judged-2 : tie.Need-enum-known-judged-2
 enum-known-judged-2 c = search needs

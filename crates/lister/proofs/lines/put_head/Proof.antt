@@ -3,7 +3,7 @@ use mathlib.Core.Path.{sym, _∙_}
 use borrow.Author.Needs.{needs}
 use lib.Seq.{length-take-le}
 use Rattle.listing.proofs.Placing.{put-length, put-then}
-use Rattle.lister.proofs.BytesJudged.{order-fits}
+use Rattle.lister.proofs.Asked.{order-fits}
 use Rattle.lister.proofs.lines.put_head.Statement.{statement}
 use Rattle.lister.proofs.lines.put_head.Tie as tie
 

@@ -2,7 +2,7 @@
 use mathlib.Core.Path.{sym}
 use borrow.Author.Needs.{needs}
 use lib.Seq.{length-take-le}
-use Rattle.lister.proofs.BytesJudged.{headed}
+use Rattle.lister.proofs.Asked.{headed}
 use Rattle.lister.proofs.InParts.{head-part}
 use Rattle.lister.proofs.parts.list_accepted.Statement.{statement}
 use Rattle.lister.proofs.parts.list_accepted.Tie as tie

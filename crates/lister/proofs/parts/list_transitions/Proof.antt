@@ -7,7 +7,7 @@ use lib.ListN.{length}
 use lib.Seq.{length-take-le}
 use Rattle.answers.proofs.Keeping.{parts-reached, rows-fit, lent-below, lent-walkable}
 use Rattle.listing.proofs.Placing.{put-length}
-use Rattle.lister.proofs.BytesJudged.{listable, line-room}
+use Rattle.lister.proofs.Asked.{listable, line-room}
 use Rattle.lister.proofs.InParts.{lines-part}
 use Rattle.lister.proofs.parts.list_transitions.Statement.{statement}
 use Rattle.lister.proofs.parts.list_transitions.Tie as tie

@@ -2,9 +2,9 @@
 use mathlib.Core.Path.{sym}
 use borrow.Author.Needs.{needs}
 use lib.Seq.{length-take-le}
-use Rattle.lister.proofs.BytesJudged.{odd-judged, even-judged}
-use Rattle.lister.proofs.judging.judge_bytes.Statement.{statement}
-use Rattle.lister.proofs.judging.judge_bytes.Tie as tie
+use Rattle.bytes.proofs.BytesJudged.{odd-judged, even-judged}
+use Rattle.bytes.proofs.judging.judge_bytes.Statement.{statement}
+use Rattle.bytes.proofs.judging.judge_bytes.Tie as tie
 
 cast-t10 : tie.Need-cast-t10
 cast-t10 c = search needs
@@ -30,9 +30,7 @@ same-length c = search needs
 returns-2 : tie.Need-returns-2
 returns-2 c =
     let f = c .before .before .before .before .before in
-    let i1 = f .before .before in
-    let s = i1 .before .before .before in
-    even-judged (f .fill-words .ensures) (i1 .if1 .left) (s .pre .2) (c .judge-into .ensures)
+    even-judged (f .fill-words .ensures) (f .before .before .if1 .left) (c .judge-into .ensures)
 
 pub judge-bytes-spec : {M : Type 1} → statement M
 judge-bytes-spec =

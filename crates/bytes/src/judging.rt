@@ -1,18 +1,18 @@
-// The judgement of the bytes read: 17 first, then that of their words.
+// The judgement of bytes: 17 first, then that of their words.
 ghost use mathlib.Core.Path.{_≡_};
 ghost use Prim.Native.Nat.{_≤_};
 ghost use lib.ListN.{length};
-ghost use Rattle.lister.specs.Steps.{JudgedBytes};
+ghost use Rattle.bytes.specs.Bytes.{JudgedBytes};
 use crate::words::fill_words;
 use strategy::Judged;
 use strategy::judge_into;
 use table::Refusal;
 
 // The answer to any bytes, at most 65,536. Of accepted ones the words stand in front of `words`, and the reported order in front of
-// `order`.
+// `order`; an odd number of bytes leaves both as they were.
 pub fn judge_bytes(bytes: &[u8], words: &mut [u16], order: &mut [u16; 2048]) -> Judged
     requires { ⌜ (length (now bytes) ≤ 65536) × (length (now words) ≡ 32768) × (length (now order) ≡ 2048) ⌝ }
-    ensures { λ r. ⌜ JudgedBytes (now (bytes .entry)) (now (words .exit)) (now (order .exit)) r ⌝ }
+    ensures { λ r. ⌜ JudgedBytes (now (bytes .entry)) (now (words .entry)) (now (words .exit)) (now (order .entry)) (now (order .exit)) r ⌝ }
 {
     if bytes.len() % 2 == 1 {
         return Judged::Refused(Refusal {

@@ -1,11 +1,11 @@
--- The judgement of bytes: 17 where their number is odd, else that of the words that stand in front.
-use Prim.Native.Nat.{ℕ, _+_, _-_, _*_, _/_, _%_, _≤_}
+-- What listing accepted bytes asks for is there: their words and their order, the bounds of their counts, what their lines are
+-- worked out from, and room.
+use Prim.Native.Nat.{ℕ, _+_, _-_, _*_, _/_, _≤_}
 use native.Mathlib.Omega.{arith}
 use mathlib.Core.Path.{_≡_, sym, ap, _∙_}
 use mathlib.Core.List.{List, map}
 use lib.ListN.{length, take, drop, length-map, length-take}
-use lib.Seq.{take-all, take-at, length-take-le}
-use borrow.Author.Tests.{eq-eqb, ne-eqb}
+use lib.Seq.{length-take-le}
 use Rattle.paper.specs.Formula.{ℓ}
 use Rattle.keys.specs.declared.Distinct.{Distinct}
 use Rattle.marks.specs.Marks.{Marked}
@@ -13,42 +13,26 @@ use Rattle.keys.specs.Keys.{keysAt}
 use Rattle.strategy.specs.declared.Accepted.{Accepted}
 use Rattle.strategy.specs.declared.Judged.{Judged}
 use Rattle.strategy.specs.declared.Judged.the-variants as judged
-use Rattle.strategy.specs.Judge.{JudgedInto, refusedAt}
-use Rattle.filling.specs.Filling.{copied}
+use Rattle.bytes.specs.Bytes.{wordsOf, JudgedBytes}
 use Rattle.answers.specs.Requests.{reported, Ordered}
 use Rattle.answers.proofs.Accepted.{is-understood, few-transitions, few-chosen, reported-length, order-stands, order-as-long}
 use Rattle.answers.proofs.Keeping.{rows-lent, chosen-lent}
-use Rattle.lister.specs.Listing.{wordsOf, judgedBytes}
-use Rattle.lister.specs.Steps.{WordsIn, JudgedBytes, Headed, Listable, longest}
+use Rattle.lister.specs.Steps.{Accepts, Headed, Listable, longest}
 
-module _ {bytes words : List ℕ} where
-  pub odd-judged : {order : List ℕ} → length bytes % 2 ≡ 1 → JudgedBytes bytes words order (refusedAt 17 (length bytes / 2))
-  unfolding judgedBytes
-  odd-judged odd = record {
-    answered = rw (eq-eqb (length bytes % 2) 1 odd);
-    ready = λ a e. let z : _≡_ {A = ℕ} 0 1 = cc in absurd (omega arith);
-  }
+-- what the judgement of accepted bytes leaves
+module _ {bytes words₀ words order₀ order : List ℕ} {r : Judged} (j : JudgedBytes bytes words₀ words order₀ order r) {a : Accepted}
+    (e : r ≡ judged.Accepted a) where
+  pub accepted-bytes : Accepts bytes (take (length bytes / 2) words) a order
+  accepted-bytes =
+      let stand = j .ready a e .words-stand in
+      record {
+        judged-so = sym (j .answered) ∙ e;
+        words-are = stand;
+        ordered = rw stand (order-stands (wordsOf bytes) order₀ order r (j .ready a e .judged-so) a e);
+      }
 
-  module _ {lent : List ℕ} {count : ℕ} (w : WordsIn bytes lent words count) where
-    in-front : take count words ≡ wordsOf bytes
-    unfolding copied
-    in-front =
-        let all : take count (wordsOf bytes) ≡ wordsOf bytes = take-all count (wordsOf bytes) (omega (arith, w .many)) in
-        ap (take count) (w .stand) ∙ take-at (take count (wordsOf bytes)) (drop count lent) count (ap length all ∙ sym (w .many)) ∙ all
-
-    pub even-judged : {order₀ order : List ℕ} {r : Judged} → (length bytes % 2 ≡ 1 → ⊥) → length order₀ ≡ 2048 → JudgedInto (take count words) order₀ order r
-        → JudgedBytes bytes words order r
-    unfolding judgedBytes
-    even-judged {order₀} {order} {r} even long i =
-        let j : JudgedInto (wordsOf bytes) order₀ order r = rw in-front at i in
-        record {
-          answered = rw (ne-eqb (length bytes % 2) 1 even) (j .answered);
-          ready = λ a e. record {
-            words-stand = rw (← w .half) in-front;
-            ordered = order-stands (wordsOf bytes) order₀ order r j a e;
-            order-long = order-as-long (wordsOf bytes) order₀ order r j a e long;
-          };
-        }
+  pub order-long : length order₀ ≡ 2048 → length order ≡ 2048
+  order-long = order-as-long (wordsOf bytes) order₀ order r (j .ready a e .judged-so) a e
 
 -- the first two lines of an accepted table can be put
 pub headed : {words order text : List ℕ} {a : Accepted} → Ordered words a order → length text ≡ 65536 → Headed a order text

@@ -1,22 +1,20 @@
--- `fill_words` puts the words one after another: the invariant is that of a copy of the words of the bytes.
+-- `fill_words` puts the words one after another: the invariant is that the words of the bytes passed stand in front.
 use Prim.Native.Nat.{_-_, _/_}
 use native.Mathlib.Omega.{arith}
 use borrow.Author.Needs.{needs}
 use lib.ListN.{length}
-use Rattle.filling.proofs.Copies.{Copying, copy-starts}
-use Rattle.lister.specs.Listing.{wordsOf}
-use Rattle.lister.proofs.BytePairs.{word-put, words-in}
-use Rattle.lister.proofs.words.fill_words.Statement.{statement}
-use Rattle.lister.proofs.words.fill_words.Tie as tie
+use Rattle.bytes.proofs.BytePairs.{Putting, putting-begins, putting-goes-on, putting-ends}
+use Rattle.bytes.proofs.words.fill_words.Statement.{statement}
+use Rattle.bytes.proofs.words.fill_words.Tie as tie
 
 abbrev Inv-loop : tie.InvT-loop
-Inv-loop bytes words₀ count i₀ words i = Copying (wordsOf bytes) (length bytes / 2) words₀ words i
+Inv-loop bytes words₀ count i₀ words i = Putting bytes words₀ words i
 
 abbrev μ-loop : tie.MeasureT-loop
 μ-loop bytes words₀ count i₀ words i = count - i
 
 loop-holds : tie.Need-loop-holds Inv-loop μ-loop
-loop-holds c = copy-starts _ _ _
+loop-holds c = putting-begins _ _ (c .before .before .pre)
 
 mul-word-of : tie.Need-mul-word-of Inv-loop μ-loop
 mul-word-of c = omega arith
@@ -53,7 +51,7 @@ loop-again c =
     let lt = c .before .before .before in
     let l = lt .before in
     let s = l .before .before .before in
-    word-put _ _ (s .pre) (lt .loop-test .taken) (c .word-of .ensures) (l .loop .inv)
+    putting-goes-on _ _ (s .pre) (l .loop .inv) (lt .loop-test .taken) (c .word-of .ensures)
 
 same-length : tie.Need-same-length Inv-loop μ-loop
 same-length c = search needs
@@ -62,7 +60,7 @@ returns : tie.Need-returns Inv-loop μ-loop
 returns c =
     let l = c .before in
     let s = l .before .before .before in
-    words-in _ _ (s .pre) (c .loop-test .left) (l .loop .inv)
+    putting-ends _ _ (s .pre) (l .loop .inv) (c .loop-test .left)
 
 pub fill-words-spec : {M : Type 1} → statement M
 fill-words-spec =

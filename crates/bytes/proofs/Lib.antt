@@ -1,0 +1,4 @@
+pub mod BytePairs
+pub mod BytesJudged
+pub mod Example
+pub mod OneOutcome
