@@ -9,7 +9,7 @@ use lib.Dec.{eqb, leb}
 use lib.ListN.{length, drop}
 use borrow.Author.Tests.{le-ltb, le-leb, lt-leb, leb-false, eq-eqb, ne-eqb, eqb-true}
 use Rattle.table.specs.declared.Layout.{Layout}
-use Rattle.table.specs.declared.Refusal.{Refusal}
+use Rattle.sections.specs.declared.Refusal.{Refusal}
 use Rattle.strategy.specs.declared.Accepted.{Accepted}
 use Rattle.strategy.specs.declared.Judged.{Judged}
 use Rattle.strategy.specs.declared.Judged.the-variants as judged

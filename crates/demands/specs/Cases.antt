@@ -4,7 +4,7 @@
 use Prim.Native.Nat.{ℕ}
 use mathlib.Core.List.{List, [], _∷_, map}
 use Rattle.net.specs.Prior.{upTo}
-use Rattle.table.specs.Sections.{refusal}
+use Rattle.sections.specs.Sections.{refusal}
 use Rattle.filling.specs.Filling.{Outcome, refuses, fills}
 use Rattle.answers.specs.declared.Answer.{Answer}
 use Rattle.answers.specs.declared.Answer.the-variants as answer

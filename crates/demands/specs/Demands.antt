@@ -16,7 +16,7 @@ use Rattle.paper.specs.Meaning.{Meaning, True}
 use Rattle.paper.specs.Carry.{Carried, unset}
 use Rattle.paper.specs.Statements.{KeysAreListed}
 use Rattle.table.specs.declared.Layout.{Layout}
-use Rattle.table.specs.declared.Refusal.{Refusal}
+use Rattle.sections.specs.declared.Refusal.{Refusal}
 use Rattle.table.specs.declared.Checked.the-variants.{Sound}
 use Rattle.table.specs.Sections.{checked}
 use Rattle.written.specs.Tables.{formulaIn}

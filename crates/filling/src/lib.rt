@@ -3,7 +3,7 @@ ghost use mathlib.Core.Path.{_≡_};
 ghost use Prim.Native.Nat.{_≤_};
 ghost use lib.ListN.{length, take};
 ghost use Rattle.filling.specs.Filling.{refuses, unlessShort, filledOf, copied, Fills};
-use table::Refusal;
+use sections::Refusal;
 
 // How many words or bytes a request filled.
 pub struct Length {

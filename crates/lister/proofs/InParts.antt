@@ -7,7 +7,7 @@ use mathlib.Core.Path.{_≡_, sym, ap, _∙_}
 use mathlib.Core.List.{List, _++_, map}
 use lib.ListN.{take, length, drop}
 use lib.Seq.{take-at}
-use Rattle.table.specs.declared.Refusal.{Refusal}
+use Rattle.sections.specs.declared.Refusal.{Refusal}
 use Rattle.strategy.specs.declared.Accepted.{Accepted}
 use Rattle.strategy.specs.declared.Judged.the-variants as judged
 use Rattle.answers.specs.Requests.{reported}

@@ -14,9 +14,9 @@ use libc::STDOUT_FILENO;
 use listing::put_refused;
 use marks::marks_of;
 use paper::Label;
+use sections::Refusal;
 use strategy::Accepted;
 use strategy::Judged;
-use table::Refusal;
 
 // Writes the first part of the listing of the bytes; says whether it could.
 fn write_first(bytes: &[u8], part: &[u8]) -> bool

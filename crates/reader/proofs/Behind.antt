@@ -8,11 +8,12 @@ use mathlib.Core.Path.{_≡_, refl, ap}
 use borrow.Author.Tests.{ltb-true}
 use lib.Dec.{ltb}
 use lib.ListN.{length, length-drop}
-use Rattle.table.specs.declared.Cursor.{Cursor}
-use Rattle.table.specs.declared.Step.{Step}
-use Rattle.table.specs.declared.Step.the-variants.{Next, Halt}
-use Rattle.table.specs.Sections.{start, openAt, partAt}
-use Rattle.table.proofs.Opened.{opened, through}
+use Rattle.sections.specs.declared.Cursor.{Cursor}
+use Rattle.sections.specs.declared.Step.{Step}
+use Rattle.sections.specs.declared.Step.the-variants.{Next, Halt}
+use Rattle.sections.specs.Sections.{start, openAt}
+use Rattle.table.specs.Sections.{partAt}
+use Rattle.sections.proofs.Opened.{opened, through}
 use Rattle.reader.specs.declared.Row.{Row}
 use Rattle.reader.specs.declared.Found.the-variants.{Here, Absent}
 use Rattle.reader.specs.Reading.{behindRows, foundIn, rowAt}

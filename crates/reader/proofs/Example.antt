@@ -3,7 +3,7 @@ use Prim.Native.Nat.{ℕ}
 use mathlib.Core.List.{[], _∷_, map}
 use mathlib.Core.Path.{_≡_, refl}
 use Rattle.paper.specs.Formula.{ℓ}
-use Rattle.table.specs.Sections.{openAt}
+use Rattle.sections.specs.Sections.{openAt}
 use Rattle.written.specs.Example.{wordsOfP}
 use Rattle.reader.specs.declared.Found.{Found}
 use Rattle.reader.specs.declared.Found.the-variants.{Here, Absent}

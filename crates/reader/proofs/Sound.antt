@@ -9,12 +9,13 @@ use borrow.Author.Tests.{lt-ltb, le-ltb, ltb-true}
 use lib.Dec.{ltb}
 use lib.ListN.{getD, drop, length-drop}
 use lib.Seq.{getD-drop}
-use Rattle.table.specs.declared.Cursor.{Cursor}
+use Rattle.sections.specs.declared.Cursor.{Cursor}
 use Rattle.table.specs.declared.Layout.{Layout}
-use Rattle.table.specs.declared.Step.the-variants.{Next}
+use Rattle.sections.specs.declared.Step.the-variants.{Next}
 use Rattle.rows.specs.Rows.{endOf}
-use Rattle.table.specs.Sections.{start, openAt, partAt, rowsIn}
-use Rattle.table.proofs.Opened.{behind, of-opened}
+use Rattle.sections.specs.Sections.{start, openAt}
+use Rattle.table.specs.Sections.{partAt, rowsIn}
+use Rattle.sections.proofs.Opened.{behind, of-opened}
 use Rattle.table.proofs.Laid.{Laid, accepted}
 use Rattle.written.proofs.Tables.{understood}
 use Rattle.reader.specs.declared.Found.the-variants.{Here, Absent}

@@ -8,11 +8,12 @@ use lib.Dec.{ltb}
 use lib.ListN.{drop}
 use denote.Ref.{RefT, now}
 use Rattle.paper.specs.Formula.{ℓ}
-use Rattle.table.specs.declared.Cursor.{Cursor}
-use Rattle.table.specs.declared.Step.{Step}
-use Rattle.table.specs.declared.Step.the-variants.{Next, Halt}
+use Rattle.sections.specs.declared.Cursor.{Cursor}
+use Rattle.sections.specs.declared.Step.{Step}
+use Rattle.sections.specs.declared.Step.the-variants.{Next, Halt}
 use Rattle.rows.specs.Rows.{kindOf, argOf, endOf, fromOf}
-use Rattle.table.specs.Sections.{andThen, start, openAt, partAt}
+use Rattle.sections.specs.Sections.{andThen, start, openAt}
+use Rattle.table.specs.Sections.{partAt}
 use Rattle.reader.specs.declared.Row.{Row}
 use Rattle.reader.specs.declared.Found.{Found}
 use Rattle.reader.specs.declared.Found.the-variants.{Here, Absent}

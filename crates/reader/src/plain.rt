@@ -10,8 +10,8 @@ use rows::arg_of;
 use rows::end_of;
 use rows::from_of;
 use rows::kind_of;
-use table::Cursor;
-use table::Step;
+use sections::Cursor;
+use sections::Step;
 
 // The cursor behind the rows, or the refusal, 1 or 2, of a count.
 pub fn behind_rows(words: &[u16]) -> Step

@@ -27,7 +27,7 @@ use Rattle.paper.proofs.Variables.{to-variables}
 use Rattle.paper.proofs.Judgement.{accepted-exactly, accepted-only-so}
 use Rattle.paper.proofs.Numbers.{numbers-say}
 use Rattle.table.specs.declared.Layout.{Layout}
-use Rattle.table.specs.declared.Refusal.{Refusal}
+use Rattle.sections.specs.declared.Refusal.{Refusal}
 use Rattle.table.specs.declared.Checked.the-variants.{Sound, Refused}
 use Rattle.entries.specs.First.{first}
 use Rattle.table.specs.Sections.{layout, checked, rowsIn, readsIn, chosenIn}

@@ -21,8 +21,8 @@ use ordering::cycle::lowest_on_cycle;
 use ordering::order::order;
 use paper::Label;
 use rows::kind_of;
+use sections::Refusal;
 use table::Layout;
-use table::Refusal;
 
 // A refusal as an answer.
 fn refused(number: u8, place: u16) -> Judged

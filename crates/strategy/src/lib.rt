@@ -2,9 +2,9 @@
 ghost use mathlib.Core.Path.{_≡_};
 ghost use lib.ListN.{length};
 ghost use Rattle.strategy.specs.Judge.{judgedOf, JudgedInto};
+use sections::Refusal;
 use table::Checked;
 use table::Layout;
-use table::Refusal;
 use table::check;
 
 mod checks; // 10 to 14, one after another

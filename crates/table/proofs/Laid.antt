@@ -9,18 +9,19 @@ use borrow.Author.Tests.{ltb-false, le-ltb}
 use lib.Dec.{ltb}
 use lib.ListN.{length, getD, take, drop, length-drop}
 use lib.Seq.{drop-drop, getD-drop, length-take-le}
-use Rattle.table.specs.declared.Cursor.{Cursor}
+use Rattle.sections.specs.declared.Cursor.{Cursor}
 use Rattle.table.specs.declared.Layout.{Layout}
-use Rattle.table.specs.declared.Step.{Step}
-use Rattle.table.specs.declared.Step.the-variants.{Next, Halt}
+use Rattle.sections.specs.declared.Step.{Step}
+use Rattle.sections.specs.declared.Step.the-variants.{Next, Halt}
 use Rattle.table.specs.declared.Checked.the-variants.{Sound}
 use Rattle.entries.specs.First.{first}
 use Rattle.rows.specs.Rows.{takenBefore, keepsRules, breaksRules, isDeep}
 use Rattle.entries.specs.Entries.{falls, beyond}
-use Rattle.table.specs.Sections.{halt, unless, start, variablesAt, readsAt, rowsAt, strategyAt, endAt, partAt, readsOf, sections, layout, readsIn, rowsIn, answerOf, checked}
+use Rattle.sections.specs.Sections.{halt, unless, start, variablesAt, readsAt, rowsAt, strategyAt, endAt}
+use Rattle.table.specs.Sections.{partAt, readsOf, sections, layout, readsIn, rowsIn, answerOf, checked}
 use Rattle.entries.proofs.First.{first-none}
-use Rattle.table.proofs.Opened.{passed, unless-of, of-unless, through, Opened, behind, held, of-held}
-use Rattle.table.proofs.ThirdSection.{all-keep, all-taken}
+use Rattle.sections.proofs.Opened.{passed, unless-of, of-unless, through, Opened, behind, held, of-held}
+use Rattle.sections.proofs.ThirdSection.{all-keep, all-taken}
 
 -- the count of a part, and its entries
 word-at : (words : List ℕ) (p : ℕ) → getD (drop p words) 0 0 ≡ getD words p 0

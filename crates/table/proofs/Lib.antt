@@ -1,4 +1,2 @@
-pub mod Opened
-pub mod ThirdSection
 pub mod Laid
 pub mod OneOutcome

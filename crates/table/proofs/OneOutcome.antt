@@ -4,18 +4,12 @@ use mathlib.Core.Path.{_≡_}
 use mathlib.Core.List.{List}
 use Rattle.paper.specs.Outcome.{OneAnswer}
 use Rattle.paper.proofs.Outcome.{by-equation}
-use Rattle.table.specs.declared.Cursor.{Cursor}
-use Rattle.table.specs.declared.Step.the-variants.{Next}
-use Rattle.table.specs.Sections.{start, openAt, sections, answerOf, checked}
+use Rattle.sections.specs.declared.Cursor.{Cursor}
+use Rattle.sections.specs.declared.Step.the-variants.{Next}
+use Rattle.table.specs.Sections.{sections, answerOf, checked}
 
 pub check : (words : List ℕ) → OneAnswer (λ r. r ≡ checked words)
 check words = by-equation (checked words)
-
-pub cursor-new : OneAnswer (λ r. r ≡ start)
-cursor-new = by-equation start
-
-pub cursor-open : (part : List ℕ) (c : Cursor) (low high width : ℕ) → OneAnswer (λ r. r ≡ openAt part c low high width)
-cursor-open part c low high width = by-equation (openAt part c low high width)
 
 -- within the crate
 pub all-sections : (words : List ℕ) → OneAnswer (λ r. r ≡ sections words)

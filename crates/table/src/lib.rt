@@ -1,15 +1,11 @@
-// The words of a table (document 01, "The formula table"): sections, each checked in its turn; the rows of the third by
-// crate rows.
+// The words of a table (document 01, "The formula table"): its sections, one after another, and where they lie in words that
+// passed.
 ghost use mathlib.Core.Path.{_≡_};
-ghost use Rattle.table.specs.Sections.{checked};
-
-mod sections; // the cursor over sections: refusals 1, 2, 4, 5, 9 and 3
-
-// A refusal: its number in document 01's table, and its place.
-pub struct Refusal {
-    pub number: u8,
-    pub place: u32,
-}
+ghost use Prim.Native.Nat.{_≤_};
+ghost use Rattle.table.specs.Sections.{sections, answerOf, checked};
+use sections::Cursor;
+use sections::Refusal;
+use sections::Step;
 
 // What sound words hold: the counts V, R, N and S, and the positions of the first read, the first row and the first
 // chosen label. The names begin at word 1.
@@ -29,29 +25,56 @@ pub enum Checked {
     Refused(Refusal),
 }
 
-// A place between two sections: the position of the next count word, how many entries the section before it has, and
-// V, R and N once they are known.
-pub struct Cursor {
-    pub at: usize,
-    pub count: usize,
-    pub variables: usize,
-    pub reads: usize,
-    pub rows: usize,
+// All sections, each handed on from its first word.
+fn sections(words: &[u16]) -> Step
+    ensures { λ r. ⌜ r ≡ sections (now (words .entry)) ⌝ }
+{
+    let start = Cursor::new();
+    let first = start.variables(words);
+    let Step::Next(one) = first else {
+        return first;
+    };
+    let a = one.at;
+    let second = one.reads(&words[a..]);
+    let Step::Next(two) = second else {
+        return second;
+    };
+    let b = two.at;
+    let third = two.rows(&words[b..], &words[a + 1..b]);
+    let Step::Next(three) = third else {
+        return third;
+    };
+    let c = three.at;
+    let fourth = three.strategy(&words[c..]);
+    let Step::Next(four) = fourth else {
+        return fourth;
+    };
+    four.end(words.len())
 }
 
-// What checking a section gives: the cursor behind it, or the refusal.
-pub enum Step {
-    Next(Cursor),
-    Halt(Refusal),
+// What the last cursor found, with the positions that follow from it.
+fn laid_out(c: Cursor) -> Checked
+    requires { ⌜ (c .variables ≤ 1024) × (c .reads ≤ 8192) × (c .rows ≤ 4096) ⌝ }
+    ensures { λ r. ⌜ r ≡ answerOf (Step.Next c) ⌝ }
+{
+    Checked::Sound(Layout {
+        variables: c.variables,
+        reads: c.reads,
+        rows: c.rows,
+        chosen: c.count,
+        reads_at: c.variables + 2,
+        rows_at: c.variables + c.reads + 3,
+        chosen_at: c.variables + c.reads + 4 * c.rows + 4,
+    })
 }
 
 // What any words are found to be.
 pub fn check(words: &[u16]) -> Checked
     ensures { λ r. ⌜ r ≡ checked (now (words .entry)) ⌝ }
 {
-    let found = sections::sections(words);
+    let found = sections(words);
     match found {
-        Step::Next(c) => sections::laid_out(c),
+        Step::Next(c) => laid_out(c),
         Step::Halt(r) => Checked::Refused(r),
     }
 }

@@ -4,9 +4,10 @@ use native.Mathlib.Omega.{arith}
 use mathlib.Core.List.{List}
 use mathlib.Core.Path.{_≡_, sym, ap, _∙_}
 use denote.Ref.{now}
-use Rattle.table.specs.declared.Cursor.{Cursor}
-use Rattle.table.specs.declared.Step.the-variants.{Next}
-use Rattle.table.specs.Sections.{start, openAt, partAt}
+use Rattle.sections.specs.declared.Cursor.{Cursor}
+use Rattle.sections.specs.declared.Step.the-variants.{Next}
+use Rattle.sections.specs.Sections.{start, openAt}
+use Rattle.table.specs.Sections.{partAt}
 use Rattle.rows.proofs.Rules.{rest}
 use Rattle.reader.specs.Reading.{behindRows}
 use Rattle.reader.proofs.Behind.{Passed, passes}

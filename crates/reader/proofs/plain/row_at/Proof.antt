@@ -7,7 +7,7 @@ use denote.Ref.{now}
 use borrow.Author.Needs.{needs}
 use borrow.Author.Tests.{lt-ltb, le-ltb}
 use lib.ListN.{length, take, length-drop}
-use Rattle.table.specs.declared.Step.the-variants.{Next}
+use Rattle.sections.specs.declared.Step.the-variants.{Next}
 use Rattle.rows.proofs.Rules.{rest}
 use Rattle.reader.specs.Reading.{behindRows, rowAt, rowsBefore}
 use Rattle.reader.proofs.Behind.{RowsThere, rows-there}

@@ -8,17 +8,17 @@ use mathlib.Core.Path.{_≡_, sym, ap, _∙_}
 use lib.ListN.{length, take, drop}
 use lib.Seq.{getD-drop}
 use denote.Ref.{now}
-use Rattle.table.specs.declared.Step.the-variants.{Next}
+use Rattle.sections.specs.declared.Step.the-variants.{Next}
 use Rattle.entries.specs.First.{first}
 use Rattle.rows.specs.Rows.{takenBefore, keepsRules, breaksRules, isDeep}
-use Rattle.table.specs.Sections.{halt, openAt, rowsAt}
+use Rattle.sections.specs.Sections.{halt, openAt, rowsAt}
 use Rattle.rows.proofs.Rules.{rest}
 use Rattle.rows.proofs.Depths.{top-deep}
-use Rattle.table.proofs.Opened.{Opened, opened, entries-there}
-use Rattle.table.proofs.ThirdSection.{none-broken, walk-asks, taken-small, some-broken, some-left, some-deep, none-deep}
+use Rattle.sections.proofs.Opened.{Opened, opened, entries-there}
+use Rattle.sections.proofs.ThirdSection.{none-broken, walk-asks, taken-small, some-broken, some-left, some-deep, none-deep}
 use borrow.Author.Needs.{needs}
-use Rattle.table.proofs.Cursor.rows.Statement.{statement}
-use Rattle.table.proofs.Cursor.rows.Tie as tie
+use Rattle.sections.proofs.Cursor.rows.Statement.{statement}
+use Rattle.sections.proofs.Cursor.rows.Tie as tie
 
 module _ (c : tie.After-opened) where
   abbrev part : List ℕ

@@ -1,14 +1,9 @@
-// The sections of a table, each handed on as the part of the words from its count word on, and wholly checked before the
-// next: refusals 1, 2, 4, 5, 9 and 3, and 6 to 8 by the rows' own checks.
+// The sections of a table (document 01, "The formula table"), each handed on as the part of the words from its count word on,
+// and wholly checked before the next: refusals 1, 2, 4, 5, 9 and 3, and 6 to 8 by the rows' own checks.
 ghost use mathlib.Core.Path.{_≡_};
 ghost use Prim.Native.Nat.{_+_, _*_, _≤_, _<_, _^_};
 ghost use lib.ListN.{length};
-ghost use Rattle.table.specs.Sections.{halt, start, openAt, variablesAt, readsAt, rowsAt, strategyAt, endAt, sections, answerOf};
-use crate::Checked;
-use crate::Cursor;
-use crate::Layout;
-use crate::Refusal;
-use crate::Step;
+ghost use Rattle.sections.specs.Sections.{halt, start, openAt, variablesAt, readsAt, rowsAt, strategyAt, endAt};
 use entries::first_beyond;
 use entries::first_fall;
 use entries::first_unfit;
@@ -17,6 +12,28 @@ use paper::Label;
 use rows::depth::first_deep;
 use rows::first_broken;
 use rows::reads_taken;
+
+// A refusal: its number in document 01's table, and its place.
+pub struct Refusal {
+    pub number: u8,
+    pub place: u32,
+}
+
+// A place between two sections: the position of the next count word, how many entries the section before it has, and
+// V, R and N once they are known.
+pub struct Cursor {
+    pub at: usize,
+    pub count: usize,
+    pub variables: usize,
+    pub reads: usize,
+    pub rows: usize,
+}
+
+// What checking a section gives: the cursor behind it, or the refusal.
+pub enum Step {
+    Next(Cursor),
+    Halt(Refusal),
+}
 
 // A refusal as a step.
 fn refused(number: u8, place: usize) -> Step
@@ -74,7 +91,7 @@ impl Cursor {
     }
 
     // Section 1: names, strictly ascending.
-    fn variables(self, part: &[u16]) -> Step
+    pub fn variables(self, part: &[u16]) -> Step
         requires { ⌜ self .at ≤ 65536 ⌝ }
         ensures { λ r. ⌜ r ≡ variablesAt (now (part .entry)) self ⌝ }
     {
@@ -98,7 +115,7 @@ impl Cursor {
     }
 
     // Section 2: reads, each a variable.
-    fn reads(self, part: &[u16]) -> Step
+    pub fn reads(self, part: &[u16]) -> Step
         requires { ⌜ self .at ≤ 65536 ⌝ }
         ensures { λ r. ⌜ r ≡ readsAt (now (part .entry)) self ⌝ }
     {
@@ -122,7 +139,7 @@ impl Cursor {
     }
 
     // Section 3: rows that keep their rules, take all reads and are no deeper than 64.
-    fn rows(self, part: &[u16], reads: &[u16]) -> Step
+    pub fn rows(self, part: &[u16], reads: &[u16]) -> Step
         requires { ⌜ (self .at ≤ 65536) × (length (now reads) ≡ self .reads) ⌝ }
         ensures { λ r. ⌜ r ≡ rowsAt (now (part .entry)) (now (reads .entry)) self ⌝ }
     {
@@ -154,7 +171,7 @@ impl Cursor {
     }
 
     // Section 4: labels of rows, strictly ascending.
-    fn strategy(self, part: &[u16]) -> Step
+    pub fn strategy(self, part: &[u16]) -> Step
         requires { ⌜ self .at ≤ 65536 ⌝ }
         ensures { λ r. ⌜ r ≡ strategyAt (now (part .entry)) self ⌝ }
     {
@@ -171,7 +188,7 @@ impl Cursor {
     }
 
     // Nothing follows.
-    fn end(self, present: usize) -> Step
+    pub fn end(self, present: usize) -> Step
         requires { ⌜ self .at ≤ 65536 ⌝ }
         ensures { λ r. ⌜ r ≡ endAt present self ⌝ }
     {
@@ -181,47 +198,4 @@ impl Cursor {
         }
         Step::Next(self)
     }
-}
-
-// All sections, each handed on from its first word.
-pub fn sections(words: &[u16]) -> Step
-    ensures { λ r. ⌜ r ≡ sections (now (words .entry)) ⌝ }
-{
-    let start = Cursor::new();
-    let first = start.variables(words);
-    let Step::Next(one) = first else {
-        return first;
-    };
-    let a = one.at;
-    let second = one.reads(&words[a..]);
-    let Step::Next(two) = second else {
-        return second;
-    };
-    let b = two.at;
-    let third = two.rows(&words[b..], &words[a + 1..b]);
-    let Step::Next(three) = third else {
-        return third;
-    };
-    let c = three.at;
-    let fourth = three.strategy(&words[c..]);
-    let Step::Next(four) = fourth else {
-        return fourth;
-    };
-    four.end(words.len())
-}
-
-// What the last cursor found, with the positions that follow from it.
-pub fn laid_out(c: Cursor) -> Checked
-    requires { ⌜ (c .variables ≤ 1024) × (c .reads ≤ 8192) × (c .rows ≤ 4096) ⌝ }
-    ensures { λ r. ⌜ r ≡ answerOf (Step.Next c) ⌝ }
-{
-    Checked::Sound(Layout {
-        variables: c.variables,
-        reads: c.reads,
-        rows: c.rows,
-        chosen: c.count,
-        reads_at: c.variables + 2,
-        rows_at: c.variables + c.reads + 3,
-        chosen_at: c.variables + c.reads + 4 * c.rows + 4,
-    })
 }

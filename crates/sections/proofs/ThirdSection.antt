@@ -8,11 +8,11 @@ use mathlib.Core.List.{List}
 use mathlib.Core.Path.{_≡_}
 use borrow.Author.Tests.{lt-ltb, le-ltb, not-false}
 use lib.ListN.{length, getD, drop}
-use Rattle.table.specs.declared.Cursor.{Cursor}
-use Rattle.table.specs.declared.Step.the-variants.{Next}
+use Rattle.sections.specs.declared.Cursor.{Cursor}
+use Rattle.sections.specs.declared.Step.the-variants.{Next}
 use Rattle.entries.specs.First.{first}
 use Rattle.rows.specs.Rows.{kindOf, argOf, takenBefore, keepsRules, breaksRules, depthOf, isDeep, Nested}
-use Rattle.table.specs.Sections.{halt, openAt, rowsAt}
+use Rattle.sections.specs.Sections.{halt, openAt, rowsAt}
 use Rattle.entries.proofs.First.{first-le, first-all}
 use Rattle.rows.proofs.Taken.{takes-le, taken-there}
 use Rattle.rows.proofs.Nested.{nested}

@@ -2,10 +2,10 @@
 use native.Mathlib.Nat.{mul-le-mul-right}
 use native.Mathlib.Omega.{arith}
 use borrow.Author.Tests.{eq-eqb, ne-eqb, lt-ltb, le-ltb}
-use Rattle.table.specs.Sections.{openAt}
+use Rattle.sections.specs.Sections.{openAt}
 use borrow.Author.Needs.{needs}
-use Rattle.table.proofs.Cursor.open.Statement.{statement}
-use Rattle.table.proofs.Cursor.open.Tie as tie
+use Rattle.sections.proofs.Cursor.open.Statement.{statement}
+use Rattle.sections.proofs.Cursor.open.Tie as tie
 
 add-refused : tie.Need-add-refused
 add-refused c = search needs

@@ -7,12 +7,12 @@ use mathlib.Core.Path.{_≡_, refl, sym, ap, subst, _∙_}
 use borrow.Author.Tests.{eqb-false, ne-eqb, ltb-false, lt-ltb, le-ltb}
 use lib.Dec.{ltb, eqb}
 use lib.ListN.{length, getD, take, drop, length-drop}
-use Rattle.table.specs.declared.Refusal.{Refusal}
-use Rattle.table.specs.declared.Cursor.{Cursor}
-use Rattle.table.specs.declared.Step.{Step}
-use Rattle.table.specs.declared.Step.the-variants.{Next, Halt}
+use Rattle.sections.specs.declared.Refusal.{Refusal}
+use Rattle.sections.specs.declared.Cursor.{Cursor}
+use Rattle.sections.specs.declared.Step.{Step}
+use Rattle.sections.specs.declared.Step.the-variants.{Next, Halt}
 use Rattle.entries.specs.First.{first}
-use Rattle.table.specs.Sections.{halt, andThen, unless, openAt}
+use Rattle.sections.specs.Sections.{halt, andThen, unless, openAt}
 use Rattle.entries.proofs.First.{first-le, neither}
 use Rattle.rows.proofs.Rules.{rest}
 

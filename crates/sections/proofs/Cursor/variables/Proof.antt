@@ -1,16 +1,16 @@
--- Section 2 opens, and the search for a read that is no variable stops where `first` does.
+-- Section 1 opens, and the search for a name that falls stops where `first` does.
 use native.Mathlib.Omega.{arith}
 use mathlib.Core.Path.{sym, _∙_}
 use denote.Ref.{now}
-use Rattle.table.specs.Sections.{readsAt}
+use Rattle.sections.specs.Sections.{variablesAt}
 use Rattle.rows.proofs.Rules.{rest}
-use Rattle.table.proofs.Opened.{Opened, opened, some-bad, none-bad, entries-there}
+use Rattle.sections.proofs.Opened.{Opened, opened, some-bad, none-bad, entries-there}
 use borrow.Author.Needs.{needs}
-use Rattle.table.proofs.Cursor.reads.Statement.{statement}
-use Rattle.table.proofs.Cursor.reads.Tie as tie
+use Rattle.sections.proofs.Cursor.variables.Statement.{statement}
+use Rattle.sections.proofs.Cursor.variables.Tie as tie
 
-opens : (c : tie.After-opened) → Opened (now (c .before .before .before .before .args .part)) 0 8192 1 (c .opened .given .0 .0 .count)
-opens c = opened _ _ 0 8192 1 _ (sym (c .before .before .«open» .ensures) ∙ c .opened .given .1) .0
+opens : (c : tie.After-opened) → Opened (now (c .before .before .before .before .args .part)) 1 1024 1 (c .opened .given .0 .0 .count)
+opens c = opened _ _ 1 1024 1 _ (sym (c .before .before .«open» .ensures) ∙ c .opened .given .1) .0
 
 open-requires : tie.Need-open-requires
 open-requires c κs = search needs
@@ -22,20 +22,20 @@ enum-told : tie.Need-enum-told
 enum-told c = search needs
 
 returns : tie.Need-returns
-unfolding readsAt
+unfolding variablesAt
 returns c = simp (← c .before .before .«open» .ensures, c .enum-told .given .1)
 
-sub-first-beyond : tie.Need-sub-first-beyond
-sub-first-beyond c = let o = opens (c .before) in omega arith
+sub-first-fall : tie.Need-sub-first-fall
+sub-first-fall c = let o = opens (c .before) in omega arith
 
-part-first-beyond-start : tie.Need-part-first-beyond-start
-part-first-beyond-start c = let o = opens (c .before) in omega arith
+part-first-fall-start : tie.Need-part-first-fall-start
+part-first-fall-start c = let o = opens (c .before) in omega arith
 
-part-first-beyond-end : tie.Need-part-first-beyond-end
-part-first-beyond-end c = search needs
+part-first-fall-end : tie.Need-part-first-fall-end
+part-first-fall-end c = search needs
 
-first-beyond-requires : tie.Need-first-beyond-requires
-first-beyond-requires c κs = let o = opens (c .before .before) in omega (arith, entries-there o)
+first-fall-requires : tie.Need-first-fall-requires
+first-fall-requires c κs = let o = opens (c .before .before) in omega (arith, entries-there o)
 
 add-refused : tie.Need-add-refused
 add-refused c = search needs
@@ -47,31 +47,31 @@ refused-requires : tie.Need-refused-requires
 refused-requires c κs = let o = opens (c .before .before .before .before) in omega arith
 
 returns-2 : tie.Need-returns-2
-unfolding readsAt
+unfolding variablesAt
 returns-2 c =
     let s = c .before .before .before .before .before in
-    let k = simp rest at (c .before .before .first-beyond .ensures) in
+    let k = simp rest at (c .before .before .first-fall .ensures) in
     c .refused .ensures ∙ some-bad _ _ _ _ _ _ _ _ _ (s .before .before .«open» .ensures) (s .opened .given .1) k (c .before .if1 .taken)
 
 returns-3 : tie.Need-returns-3
-unfolding readsAt
+unfolding variablesAt
 returns-3 c =
     let s = c .before .before .before .before in
-    let k = simp rest at (c .before .first-beyond .ensures) in
+    let k = simp rest at (c .before .first-fall .ensures) in
     none-bad _ _ _ _ _ _ _ _ _ (s .before .before .«open» .ensures) (s .opened .given .1) k (c .if1 .left)
 
-pub reads-spec : {M : Type 1} → statement M
-reads-spec =
+pub variables-spec : {M : Type 1} → statement M
+variables-spec =
     tie.close
     (tie.spec
     open-requires
     enum-known-opened
     enum-told
     returns
-    sub-first-beyond
-    part-first-beyond-start
-    part-first-beyond-end
-    first-beyond-requires
+    sub-first-fall
+    part-first-fall-start
+    part-first-fall-end
+    first-fall-requires
     add-refused
     add-refused-2
     refused-requires

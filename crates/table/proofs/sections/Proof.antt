@@ -4,14 +4,15 @@ use native.Mathlib.Omega.{arith}
 use mathlib.Core.List.{List}
 use mathlib.Core.Path.{_≡_, sym, ap, _∙_}
 use denote.Ref.{now}
-use Rattle.table.specs.declared.Cursor.{Cursor}
-use Rattle.table.specs.declared.Step.the-variants.{Next}
-use Rattle.table.specs.Sections.{start, variablesAt, readsAt, rowsAt, strategyAt, partAt, readsOf, sections}
+use Rattle.sections.specs.declared.Cursor.{Cursor}
+use Rattle.sections.specs.declared.Step.the-variants.{Next}
+use Rattle.sections.specs.Sections.{start, variablesAt, readsAt, rowsAt, strategyAt}
+use Rattle.table.specs.Sections.{partAt, readsOf, sections}
 use Rattle.rows.proofs.Rules.{rest}
 use Rattle.table.proofs.Laid.{NamesPassed, ReadsPassed, RowsPassed, InReach, names-of, reads-of, rows-of, chosen-of, names-reach, reads-reach, reads-between, between-reads, length-between, rows-reach, chosen-reach}
 use borrow.Author.Needs.{needs}
-use Rattle.table.proofs.sections.sections.Statement.{statement}
-use Rattle.table.proofs.sections.sections.Tie as tie
+use Rattle.table.proofs.sections.Statement.{statement}
+use Rattle.table.proofs.sections.Tie as tie
 
 -- the answers of the sections that passed, and how far their cursors stand
 module _ (c : tie.After-first) where

@@ -3,12 +3,12 @@ use native.Mathlib.Nat.{zero-add}
 use native.Mathlib.Omega.{arith}
 use mathlib.Core.Path.{sym, ap, _∙_}
 use denote.Ref.{now}
-use Rattle.table.specs.Sections.{halt, strategyAt}
+use Rattle.sections.specs.Sections.{halt, strategyAt}
 use Rattle.rows.proofs.Rules.{rest}
-use Rattle.table.proofs.Opened.{Opened, opened, some-bad, none-bad, entries-there}
+use Rattle.sections.proofs.Opened.{Opened, opened, some-bad, none-bad, entries-there}
 use borrow.Author.Needs.{needs}
-use Rattle.table.proofs.Cursor.strategy.Statement.{statement}
-use Rattle.table.proofs.Cursor.strategy.Tie as tie
+use Rattle.sections.proofs.Cursor.strategy.Statement.{statement}
+use Rattle.sections.proofs.Cursor.strategy.Tie as tie
 
 opens : (c : tie.After-opened) → Opened (now (c .before .before .before .before .args .part)) 0 4096 1 (c .opened .given .0 .0 .count)
 opens c = opened _ _ 0 4096 1 _ (sym (c .before .before .«open» .ensures) ∙ c .opened .given .1) .0

@@ -1,9 +1,9 @@
 -- Each return is the definition with the test that led there put in.
 use borrow.Author.Tests.{lt-ltb, le-ltb}
-use Rattle.table.specs.Sections.{endAt}
+use Rattle.sections.specs.Sections.{endAt}
 use borrow.Author.Needs.{needs}
-use Rattle.table.proofs.Cursor.end.Statement.{statement}
-use Rattle.table.proofs.Cursor.end.Tie as tie
+use Rattle.sections.proofs.Cursor.end.Statement.{statement}
+use Rattle.sections.proofs.Cursor.end.Tie as tie
 
 refused-requires : tie.Need-refused-requires
 refused-requires c κs = search needs

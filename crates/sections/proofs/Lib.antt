@@ -1,0 +1,3 @@
+pub mod Opened
+pub mod ThirdSection
+pub mod OneOutcome
