@@ -90,18 +90,43 @@ named m = Next (record { at = m .at; count = m .count; variables = m .count; rea
 abbrev read : Cursor → Step
 read m = Next (record { at = m .at; count = m .count; variables = m .variables; reads = m .count; rows = m .rows })
 
-abbrev rowed : List ℕ → ℕ → Cursor → Step
-rowed rows #R m =
-    cond (ltb (takenBefore rows (m .count)) #R) (halt 7 (takenBefore rows (m .count)))
-    (unless 8 0 (isDeep rows) (m .count)
-    (Next (record { at = m .at; count = m .count; variables = m .variables; reads = m .reads; rows = m .count })))
+abbrev rowed : Cursor → Step
+rowed m = Next (record { at = m .at; count = m .count; variables = m .variables; reads = m .reads; rows = m .count })
 
+-- section 3 goes on if its rows take all reads and none is too deep
+abbrev rowedIf : List ℕ → ℕ → Cursor → Step
+rowedIf rows #R m = cond (ltb (takenBefore rows (m .count)) #R) (halt 7 (takenBefore rows (m .count))) (unless 8 0 (isDeep rows) (m .count) (rowed m))
+
+rowed-of : (rows : List ℕ) (#R : ℕ) (m c : Cursor) → rowedIf rows #R m ≡ Next c
+    → (#R ≤ takenBefore rows (m .count)) × (first (isDeep rows) (m .count) ≡ m .count) × (rowed m ≡ Next c)
+rowed-of rows #R m c e =
+    let t = passed (ltb (takenBefore rows (m .count)) #R) _ _ c e in
+    let u = unless-of 8 0 (isDeep rows) (m .count) _ c (t .1) in
+    (ltb-false _ _ (t .0), u .0, u .1)
+
+of-rowed : (rows : List ℕ) (#R : ℕ) (m : Cursor) → #R ≤ takenBefore rows (m .count) → first (isDeep rows) (m .count) ≡ m .count → rowedIf rows #R m ≡ rowed m
+of-rowed rows #R m h e = rw (le-ltb (takenBefore rows (m .count)) #R h) (of-unless 8 0 (isDeep rows) (m .count) _ e)
+
+-- what is asked of an entry of section 4
 abbrev unfit : List ℕ → ℕ → ℕ → Bool
 unfit entries #N k = beyond entries #N k || falls entries k
 
-of-rowed : (rows : List ℕ) (#R : ℕ) (m : Cursor) → #R ≤ takenBefore rows (m .count) → first (isDeep rows) (m .count) ≡ m .count
-    → rowed rows #R m ≡ Next (record { at = m .at; count = m .count; variables = m .variables; reads = m .reads; rows = m .count })
-of-rowed rows #R m h e = rw (le-ltb (takenBefore rows (m .count)) #R h) (of-unless 8 0 (isDeep rows) (m .count) _ e)
+-- the cursor behind each section, opened behind the one before
+after-names : (#V : ℕ) → named (behind start 1 #V) ≡ Next (afterNames #V)
+after-names #V = ap (λ at. Next (record { at = at; count = #V; variables = #V; reads = 0; rows = 0 })) (omega arith)
+
+after-reads : (#V #R : ℕ) → read (behind (afterNames #V) 1 #R) ≡ Next (afterReads #V #R)
+after-reads #V #R = ap (λ at. Next (record { at = at; count = #R; variables = #V; reads = #R; rows = 0 })) (omega arith)
+
+after-rows : (#V #R #N : ℕ) → rowed (behind (afterReads #V #R) 4 #N) ≡ Next (afterRows #V #R #N)
+after-rows #V #R #N = ap (λ at. Next (record { at = at; count = #N; variables = #V; reads = #R; rows = #N })) (omega arith)
+
+after-chosen : (#V #R #N #S : ℕ) → Next (behind (afterRows #V #R #N) 1 #S) ≡ Next (afterChosen #V #R #N #S)
+after-chosen #V #R #N #S = ap (λ at. Next (record { at = at; count = #S; variables = #V; reads = #R; rows = #N })) (omega arith)
+
+-- a step leads to one cursor
+one-cursor : {s : Step} {c d : Cursor} → s ≡ Next c → s ≡ Next d → c ≡ d
+one-cursor p q = cc
 
 module _ (words : List ℕ) where
   abbrev pub NamesPassed : Cursor → Type 0
@@ -120,10 +145,9 @@ module _ (words : List ℕ) where
   unfolding variablesAt
   names-of a e =
       let h = held words start 1 1024 1 4 1 (λ n. falls (drop 1 words)) named a e in
-      let at : 0 + 1 + h .n * 1 ≡ h .n + 1 = omega arith in
       record {
         count = h .n;
-        cursor = cc (h .went);
+        cursor = one-cursor (h .went) (after-names (h .n));
         holds = (omega arith, λ #R #N #S. record { some = h .opens .least; most = h .opens .most; counted = h .opens .word; ascend = h .fit });
       }
 
@@ -131,18 +155,16 @@ module _ (words : List ℕ) where
   unfolding variablesAt
   of-names #V #R #N #S h room =
       let o : Opened words 1 1024 1 #V = record { word = h .counted; least = h .some; most = h .most; room = omega arith } in
-      let at : 0 + 1 + #V * 1 ≡ #V + 1 = omega arith in
-      cc (of-held words start 1 1024 1 4 1 (λ n. falls (drop 1 words)) named #V o (h .ascend))
+      of-held words start 1 1024 1 4 1 (λ n. falls (drop 1 words)) named #V o (h .ascend) ∙ after-names #V
 
   pub reads-of : (#V : ℕ) (a b : Cursor) → a ≡ afterNames #V → readsAt (partAt words a) a ≡ Next b → ReadsPassed #V b
   unfolding readsAt
   reads-of #V a b q e =
       let es : drop 1 (drop (#V + 1) words) ≡ drop (#V + 2) words = entries-at words (#V + 1) (#V + 2) (omega arith) in
       let h = held (drop (#V + 1) words) (afterNames #V) 0 8192 1 5 (#V + 1 + 1) (λ n. beyond (drop (#V + 2) words) #V) read b (simp (q, es) at e) in
-      let is : b ≡ record { at = #V + 1 + 1 + h .n * 1; count = h .n; variables = #V; reads = h .n; rows = 0 } = cc in
       record {
         count = h .n;
-        cursor = is ∙ ap (λ at. record { at = at; count = h .n; variables = #V; reads = h .n; rows = 0 }) (omega arith);
+        cursor = one-cursor (h .went) (after-reads #V (h .n));
         holds = (
           omega (arith, length-drop (#V + 1) words),
           λ #N #S. record { most = h .opens .most; counted = sym (word-at words (#V + 1)) ∙ h .opens .word; below = h .fit },
@@ -156,7 +178,7 @@ module _ (words : List ℕ) where
       rw (entries-at words (#V + 1) (#V + 2) (omega arith))
       (of-held (drop (#V + 1) words) (afterNames #V) 0 8192 1 5 (#V + 1 + 1) (λ n. beyond (drop (#V + 2) words) #V) read #R
       (record { word = word-at words (#V + 1) ∙ h .counted; least = omega arith; most = h .most; room = omega (arith, length-drop (#V + 1) words) }) (h .below)
-      ∙ ap (λ at. Next (record { at = at; count = #R; variables = #V; reads = #R; rows = 0 })) (omega arith))
+      ∙ after-reads #V #R)
 
   -- the reads that stand before the cursor behind section 2
   pub reads-before : (#V #R : ℕ) → readsOf words (afterReads #V #R) ≡ take #R (drop (#V + 2) words)
@@ -169,14 +191,12 @@ module _ (words : List ℕ) where
       let rows = drop (#V + #R + 3) words in
       let reads = take #R (drop (#V + 2) words) in
       let es : drop 1 p ≡ rows = entries-at words (#V + #R + 2) (#V + #R + 3) (omega arith) in
-      let h = held p (afterReads #V #R) 1 4096 4 6 0 (λ n. breaksRules rows reads #V n) (rowed rows #R) c (simp (q, reads-before, es) at e) in
-      let t = passed (ltb (takenBefore rows (h .n)) #R) _ _ c (h .went) in
-      let u = unless-of 8 0 (isDeep rows) (h .n) _ c (t .1) in
+      let h = held p (afterReads #V #R) 1 4096 4 6 0 (λ n. breaksRules rows reads #V n) (rowedIf rows #R) c (simp (q, reads-before, es) at e) in
+      let w = rowed-of rows #R (behind (afterReads #V #R) 4 (h .n)) c (h .went) in
       let there = length-take-le #R (drop (#V + 2) words) (omega (arith, length-drop (#V + #R + 2) words, length-drop (#V + 2) words)) in
-      let is : c ≡ record { at = #V + #R + 2 + 1 + h .n * 4; count = h .n; variables = #V; reads = #R; rows = h .n } = cc in
       record {
         count = h .n;
-        cursor = is ∙ ap (λ at. record { at = at; count = h .n; variables = #V; reads = #R; rows = h .n }) (omega arith);
+        cursor = one-cursor (w .2) (after-rows #V #R (h .n));
         holds = (
           omega (arith, length-drop (#V + #R + 2) words),
           λ #S. record {
@@ -184,8 +204,8 @@ module _ (words : List ℕ) where
             most = h .opens .most;
             counted = sym (word-at words (#V + #R + 2)) ∙ h .opens .word;
             keep = all-keep rows reads #V (h .n) (h .fit);
-            taken = all-taken rows reads #V (h .n) #R there (h .fit) (ltb-false _ _ (t .0));
-            shallow = u .0;
+            taken = all-taken rows reads #V (h .n) #R there (h .fit) (w .0);
+            shallow = w .1;
           },
         );
       }
@@ -198,11 +218,11 @@ module _ (words : List ℕ) where
       let rows = drop (#V + #R + 3) words in
       let reads = take #R (drop (#V + 2) words) in
       rw (reads-before, entries-at words (#V + #R + 2) (#V + #R + 3) (omega arith))
-      (of-held p (afterReads #V #R) 1 4096 4 6 0 (λ n. breaksRules rows reads #V n) (rowed rows #R) #N
+      (of-held p (afterReads #V #R) 1 4096 4 6 0 (λ n. breaksRules rows reads #V n) (rowedIf rows #R) #N
       (record { word = word-at words (#V + #R + 2) ∙ h .counted; least = h .some; most = h .most; room = omega (arith, length-drop (#V + #R + 2) words) })
       (first-none _ #N (λ i k. rw (h .keep i k)))
       ∙ of-rowed rows #R (behind (afterReads #V #R) 4 #N) (omega arith) (h .shallow)
-      ∙ ap (λ at. Next (record { at = at; count = #N; variables = #V; reads = #R; rows = #N })) (omega arith))
+      ∙ after-rows #V #R #N)
 
   pub chosen-of : (#V #R #N : ℕ) (c d : Cursor) → c ≡ afterRows #V #R #N → strategyAt (partAt words c) c ≡ Next d → ChosenPassed #V #R #N d
   unfolding strategyAt
@@ -211,10 +231,9 @@ module _ (words : List ℕ) where
       let entries = drop (#V + #R + 4 * #N + 4) words in
       let es : drop 1 p ≡ entries = entries-at words (#V + #R + 4 * #N + 3) (#V + #R + 4 * #N + 4) (omega arith) in
       let h = held p (afterRows #V #R #N) 0 4096 1 9 0 (λ n. unfit entries #N) Next d (simp (q, es) at e) in
-      let is : d ≡ record { at = #V + #R + 4 * #N + 3 + 1 + h .n * 1; count = h .n; variables = #V; reads = #R; rows = #N } = cc in
       record {
         count = h .n;
-        cursor = is ∙ ap (λ at. record { at = at; count = h .n; variables = #V; reads = #R; rows = #N }) (omega arith);
+        cursor = one-cursor (h .went) (after-chosen #V #R #N (h .n));
         holds = (
           omega (arith, length-drop (#V + #R + 4 * #N + 3) words),
           record { most = h .opens .most; counted = sym (word-at words (#V + #R + 4 * #N + 3)) ∙ h .opens .word; fit = h .fit },
@@ -231,12 +250,25 @@ module _ (words : List ℕ) where
       (of-held (drop p words) (afterRows #V #R #N) 0 4096 1 9 0 (λ n. unfit entries #N) Next #S
       (record { word = word-at words p ∙ h .counted; least = omega arith; most = h .most; room = omega (arith, length-drop p words) })
       (h .fit)
-      ∙ ap (λ at. Next (record { at = at; count = #S; variables = #V; reads = #R; rows = #N })) (omega arith))
+      ∙ after-chosen #V #R #N #S)
+
+  end-of : (c d : Cursor) → endAt (length words) c ≡ Next d → (length words ≤ c .at) × (d ≡ c)
+  unfolding endAt
+  end-of c d e = let p = passed (ltb (c .at) (length words)) _ (Next c) d e in (ltb-false _ _ (p .0), (cc))
 
   -- how far a cursor behind a section stands
   pub record InReach (d : Cursor) : Type 0 where
     pub near : d .at ≤ 65536
     pub within : d .at ≤ length words
+
+  -- words of which every section passed
+  pub record Sectioned (d : Cursor) : Type 0 where
+    pub #V : ℕ
+    pub #R : ℕ
+    pub #N : ℕ
+    pub #S : ℕ
+    pub cursor : d ≡ afterChosen #V #R #N #S
+    pub laid-out : Laid words (layout #V #R #N #S)
 
   module _ {a : Cursor} (p : NamesPassed a) where
     pub names-reach : InReach a
@@ -271,24 +303,32 @@ module _ (words : List ℕ) where
             let v = p .holds .1 0 0 0 .most in let w = q .holds .1 0 0 .most in let x = r .holds .1 0 .most in let z = r .holds .0 in
             rw (r .cursor) (record { near = omega arith; within = omega arith })
 
-        pub chosen-reach : {d : Cursor} → ChosenPassed (p .count) (q .count) (r .count) d → InReach d
-        chosen-reach s =
-            let v = p .holds .1 0 0 0 .most in let w = q .holds .1 0 0 .most in let x = r .holds .1 0 .most in
-            let y = s .holds .1 .most in let z = s .holds .0 in
-            rw (s .cursor) (record { near = omega arith; within = omega arith })
+        module _ {d : Cursor} (s : ChosenPassed (p .count) (q .count) (r .count) d) where
+          pub chosen-reach : InReach d
+          chosen-reach =
+              let v = p .holds .1 0 0 0 .most in let w = q .holds .1 0 0 .most in let x = r .holds .1 0 .most in
+              let y = s .holds .1 .most in let z = s .holds .0 in
+              rw (s .cursor) (record { near = omega arith; within = omega arith })
 
-  end-of : (c d : Cursor) → endAt (length words) c ≡ Next d → (length words ≤ c .at) × (d ≡ c)
-  unfolding endAt
-  end-of c d e = let p = passed (ltb (c .at) (length words)) _ (Next c) d e in (ltb-false _ _ (p .0), (cc))
-
-  -- words of which every section passed
-  pub record Sectioned (d : Cursor) : Type 0 where
-    pub #V : ℕ
-    pub #R : ℕ
-    pub #N : ℕ
-    pub #S : ℕ
-    pub cursor : d ≡ afterChosen #V #R #N #S
-    pub laid-out : Laid words (layout #V #R #N #S)
+          -- all four sections passed, and nothing follows
+          all-passed : (e : Cursor) → endAt (length words) d ≡ Next e → Sectioned e
+          all-passed e h =
+              let z = end-of d e h in
+              record {
+                #V = p .count;
+                #R = q .count;
+                #N = r .count;
+                #S = s .count;
+                cursor = z .1 ∙ s .cursor;
+                laid-out = record {
+                  of-counts = refl;
+                  names = p .holds .1 (q .count) (r .count) (s .count);
+                  reads = q .holds .1 (r .count) (s .count);
+                  rows = r .holds .1 (s .count);
+                  chosen = s .holds .1;
+                  all-words = omega (arith, s .holds .0, z .0, ap (λ x. x .at) (s .cursor));
+                };
+              }
 
   pub sections-of : (d : Cursor) → sections words ≡ Next d → Sectioned d
   unfolding sections
@@ -301,22 +341,7 @@ module _ (words : List ℕ) where
       let r = rows-of (p .count) (q .count) (u .mid) (v .mid) (q .cursor) (v .came) in
       let w = through (strategyAt (partAt words (v .mid)) (v .mid)) _ d (v .went) in
       let s = chosen-of (p .count) (q .count) (r .count) (v .mid) (w .mid) (r .cursor) (w .came) in
-      let z = end-of (w .mid) d (w .went) in
-      record {
-        #V = p .count;
-        #R = q .count;
-        #N = r .count;
-        #S = s .count;
-        cursor = z .1 ∙ s .cursor;
-        laid-out = record {
-          of-counts = refl;
-          names = p .holds .1 (q .count) (r .count) (s .count);
-          reads = q .holds .1 (r .count) (s .count);
-          rows = r .holds .1 (s .count);
-          chosen = s .holds .1;
-          all-words = omega (arith, s .holds .0, z .0, ap (λ x. x .at) (s .cursor));
-        };
-      }
+      all-passed p q r s d (w .went)
 
   pub counts-small : (d : Cursor) → sections words ≡ Next d → (d .variables ≤ 1024) × (d .reads ≤ 8192) × (d .rows ≤ 4096)
   counts-small d e = let s = sections-of d e in let h = s .laid-out in rw (s .cursor) (h .names .most, h .reads .most, h .rows .most)
