@@ -36,5 +36,5 @@ module _ (rows : List ℕ) where
   pub reads-taken : (n : ℕ) → OneAnswer (λ r. r ≡ takenBefore rows n)
   reads-taken n = by-equation (takenBefore rows n)
 
-  pub first-broken : (reads : List ℕ) (variables n : ℕ) → OneAnswer (λ r. r ≡ first (breaksRules rows reads variables n) n)
-  first-broken reads variables n = by-equation (first (breaksRules rows reads variables n) n)
+  pub first-broken : (reads : List ℕ) (variables n : ℕ) → OneAnswer (λ (r : Label). r .0 ≡ first (breaksRules rows reads variables n) n)
+  first-broken reads variables n r s p q = ap ℓ (by-equation (first (breaksRules rows reads variables n) n) (r .0) (s .0) p q)

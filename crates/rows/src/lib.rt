@@ -202,20 +202,20 @@ fn taken_by(rows: &[u16], at: Label) -> usize
 }
 
 // The lowest of n rows that breaks its rules, or n.
-pub fn first_broken(rows: &[u16], reads: &[u16], variables: usize, n: u16) -> u16
+pub fn first_broken(rows: &[u16], reads: &[u16], variables: usize, n: u16) -> Label
     requires { ⌜ (4 * n ≤ length (now rows)) × (n ≤ 4096) ⌝ }
-    ensures { λ r. ⌜ r ≡ first (breaksRules (now (rows .entry)) (now (reads .entry)) variables n) n ⌝ }
+    ensures { λ r. ⌜ r .0 ≡ first (breaksRules (now (rows .entry)) (now (reads .entry)) variables n) n ⌝ }
 {
     let mut i: u16 = 0;
     let mut taken: usize = 0;
     while i < n {
         if !keeps_rules(rows, reads, variables, n, Label(i), taken) {
-            return i;
+            return Label(i);
         }
         taken += taken_by(rows, Label(i));
         i += 1;
     }
-    n
+    Label(n)
 }
 
 // The number of reads that the stars of n rows take.

@@ -150,8 +150,8 @@ impl Cursor {
         let n = next.count as u16;
         let rows = &part[1..];
         let broken = first_broken(rows, reads, self.variables, n);
-        if broken < n {
-            return refused(6, wide(broken));
+        if broken.0 < n {
+            return refused(6, wide(broken.0));
         }
         let taken = reads_taken(rows, n);
         if taken < self.reads {

@@ -39,12 +39,12 @@ module _ (c : tie.After-first-broken) where
   opening = c .before .before .before .before
 
   lowest : let s = opening .before .before .before .before .before .args in let n = opening .opened .given .0 .0 .count in
-      c .first-broken .result ≡ first (breaksRules (drop 1 (part opening)) (now (s .reads)) (s .self .variables) n) n
+      c .first-broken .result .0 ≡ first (breaksRules (drop 1 (part opening)) (now (s .reads)) (s .self .variables) n) n
   lowest = simp rest at (c .first-broken .ensures)
 
 module _ (c : tie.After-reads-taken) where
   abbrev searched : tie.After-first-broken
-  searched = c .before .before
+  searched = c .before .before .before
 
   taken : c .reads-taken .result ≡ takenBefore (drop 1 (part (opening searched))) (opening searched .opened .given .0 .0 .count)
   taken = simp rest at (c .reads-taken .ensures)
@@ -96,12 +96,12 @@ refused-requires c κs = search needs
 
 returns-2 : tie.Need-returns-2
 returns-2 c =
-    let s = c .before .before .before in
+    let s = c .before .before .before .before in
     c .refused .ensures ∙ ap (halt 6) (c .before .wide .ensures)
     ∙ sym (some-broken _ _ _ _ (came (opening s)) _ (lowest s) (c .before .before .if1 .taken))
 
 reads-taken-requires : tie.Need-reads-taken-requires
-reads-taken-requires c κs = let o = opens (c .before .before .before .before .before) in (omega (arith, entries-there o), omega arith)
+reads-taken-requires c κs = let o = opens (c .before .before .before .before .before .before) in (omega (arith, entries-there o), omega arith)
 
 refused-requires-2 : tie.Need-refused-requires-2
 refused-requires-2 c κs =
