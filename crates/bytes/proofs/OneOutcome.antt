@@ -1,6 +1,6 @@
 -- For each public function, any two outcomes that its promise allows are equal: the answer, and every lent word afterwards.
 use Prim.Native.Nat.{ℕ}
-use mathlib.Core.Path.{_≡_, sym, _∙_}
+use mathlib.Core.Path.{_≡_}
 use mathlib.Core.List.{List}
 use lib.ListN.{length}
 use Rattle.paper.specs.Outcome.{OneOutcome}

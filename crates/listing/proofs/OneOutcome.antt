@@ -3,7 +3,8 @@ use Prim.Native.Nat.{ℕ, _+_}
 use mathlib.Core.List.{List, [], _∷_}
 use Rattle.paper.specs.Outcome.{OneOutcome}
 use Rattle.paper.proofs.Outcome.{by-equation}
-use Rattle.listing.specs.Text.{decimal, fields, positions, acceptedLine, orderLine, transitionLine, refusedLine}
+use Rattle.marks.specs.Marks.{positions}
+use Rattle.listing.specs.Text.{decimal, fields, acceptedLine, orderLine, transitionLine, refusedLine}
 use Rattle.listing.specs.Placed.{placed, Put}
 use lib.ListN.{length}
 

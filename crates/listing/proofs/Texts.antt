@@ -11,7 +11,8 @@ use lib.Dec.{eqb}
 use lib.ListN.{length, getD, take, length-append}
 use lib.Seq.{length-take-le, take-suc}
 use borrow.Author.Tests.{eq-eqb, ne-eqb}
-use Rattle.listing.specs.Text.{field, fields, positionsFrom, positions}
+use Rattle.marks.specs.Marks.{positionsFrom, positions}
+use Rattle.listing.specs.Text.{field, fields}
 use Rattle.listing.specs.Placed.{Put}
 use Rattle.listing.proofs.Placing.{put-then}
 use Rattle.listing.proofs.Decimals.{five-digits}

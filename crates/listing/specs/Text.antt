@@ -5,7 +5,7 @@ use Prim.Native.Char.{code}
 use Prim.Native.String.{String, [] as empty, _∷_ as _then_}
 use mathlib.Core.Bool.{cond}
 use mathlib.Core.List.{List, [], _∷_, _++_}
-use lib.Dec.{ltb, eqb}
+use lib.Dec.{ltb}
 
 -- a text of ASCII characters, a byte for each
 abbrev pub ascii : String → List ℕ
@@ -55,12 +55,3 @@ transitionLine k assigned kept = decimal k ++ ascii " assign" ++ fields assigned
 -- "refused", number, place
 unfoldable pub refusedLine : ℕ → ℕ → List ℕ
 refusedLine number place = line "refused" (number ∷ place ∷ [])
-
--- the positions of the bytes that are 1, ascending, where the first byte's position is k
-unfoldable pub positionsFrom : ℕ → List ℕ → List ℕ
-positionsFrom k [] = []
-positionsFrom k (b ∷ bs) = cond (eqb b 1) (k ∷ positionsFrom (suc k) bs) (positionsFrom (suc k) bs)
-
--- the positions of the bytes that are 1, from 0 on
-unfoldable pub positions : List ℕ → List ℕ
-positions bs = positionsFrom 0 bs

@@ -6,7 +6,8 @@ use native.Mathlib.Omega.{arith}
 use mathlib.Core.Path.{_≡_}
 use lib.ListN.{length, take}
 use lib.Seq.{take-all}
-use Rattle.listing.specs.Text.{fields, positionsFrom, positions}
+use Rattle.marks.specs.Marks.{positionsFrom, positions}
+use Rattle.listing.specs.Text.{fields}
 use Rattle.listing.specs.Placed.{Put}
 use Rattle.listing.proofs.Placing.{put-nothing, put-then}
 use Rattle.listing.proofs.Texts.{positions-next}

@@ -1,8 +1,7 @@
 -- `fill_words` puts the words one after another: the invariant is that the words of the bytes passed stand in front.
-use Prim.Native.Nat.{_-_, _/_}
+use Prim.Native.Nat.{_-_}
 use native.Mathlib.Omega.{arith}
 use borrow.Author.Needs.{needs}
-use lib.ListN.{length}
 use Rattle.bytes.proofs.BytePairs.{Putting, putting-begins, putting-goes-on, putting-ends}
 use Rattle.bytes.proofs.words.fill_words.Statement.{statement}
 use Rattle.bytes.proofs.words.fill_words.Tie as tie
