@@ -10,7 +10,7 @@ use lib.Seq.{length-take-le, length-front}
 use Rattle.paper.specs.Formula.{ℓ, labels, isCandidate}
 use Rattle.paper.specs.Strategy.{Strategy}
 use Rattle.paper.specs.Transition.{keys}
-use Rattle.paper.specs.Judgement.{Judgement, accepted, refused, judge}
+use Rattle.paper.specs.Judgement.{Judgement, accepted, judge}
 use Rattle.paper.proofs.Lists.{to-none}
 use Rattle.paper.proofs.Labels.{mem-has}
 use Rattle.paper.proofs.Judgement.{accepted-exactly, accepted-only-so}
@@ -21,10 +21,11 @@ use Rattle.table.specs.Sections.{checked, chosenIn}
 use Rattle.written.specs.Tables.{Understood, formulaIn}
 use Rattle.written.proofs.Tables.{understood}
 use Rattle.ordering.specs.Prior.{written}
-use Rattle.strategy.specs.declared.Accepted.{Accepted}
-use Rattle.strategy.specs.declared.Judged.{Judged}
-use Rattle.strategy.specs.declared.Judged.the-variants as judged
-use Rattle.strategy.specs.Judge.{judgedOf, judgedAs, answerOf, proposalIn, orderLeft, JudgedInto}
+use Rattle.verdict.specs.declared.Accepted.{Accepted}
+use Rattle.verdict.specs.declared.Judged.{Judged}
+use Rattle.verdict.specs.declared.Judged.the-variants as judged
+use Rattle.verdict.proofs.Answers.{accepting}
+use Rattle.strategy.specs.Judge.{judgedOf, judgedAs, proposalIn, orderLeft, JudgedInto}
 use Rattle.strategy.proofs.Held.{parts-of, chosen-rows}
 use Rattle.strategy.proofs.Strangers.{kinds-of}
 use Rattle.strategy.proofs.Placed.{order-length}
@@ -36,22 +37,8 @@ use Rattle.answers.specs.declared.Answer.the-variants as answer
 use Rattle.answers.specs.Requests.{judgeAnswer, judgeOf, FitCounts, reported, orderOutcome, orderOf, Ordered}
 use Rattle.answers.proofs.Answers.{accepted-first}
 
--- an acceptance comes from an acceptance
-abbrev layoutIn : Judged → Layout → Layout
-layoutIn (judged.Accepted a) other = a .layout
-layoutIn (judged.Refused x) other = other
-
-abbrev transitionsIn : Judged → ℕ
-transitionsIn (judged.Accepted a) = a .transitions
-transitionsIn (judged.Refused x) = 0
-
 abbrev judgement : List ℕ → Layout → Judgement
 judgement words l = judge (l .variables) (formulaIn words l) (proposalIn words l)
-
-accepting : (l : Layout) (j : Judgement) {a : Accepted} → answerOf l j ≡ judged.Accepted a
-    → (l ≡ a .layout) × (v n s : ℕ) × (j ≡ accepted v n s (a .transitions))
-accepting l (accepted v n s t) e = (ap (λ r. layoutIn r l) e, v, n, s, ap (λ k. accepted v n s k) (ap transitionsIn e))
-accepting l (refused number place) e = let z : _≡_ {A = ℕ} 0 1 = cc in absurd (omega arith)
 
 record Passed (words : List ℕ) (k : Checked) (a : Accepted) : Type 0 where
   sound : k ≡ Sound (a .layout)
@@ -63,7 +50,7 @@ record Passed (words : List ℕ) (k : Checked) (a : Accepted) : Type 0 where
 passed : (words : List ℕ) (k : Checked) (a : Accepted) → judgedAs words k ≡ judged.Accepted a → Passed words k a
 passed words (Refused r) a e = let z : _≡_ {A = ℕ} 0 1 = cc in absurd (omega arith)
 passed words (Sound l) a e =
-    let (same, v, n, s, j) = accepting l (judgement words l) e in
+    let (same, v, n, s, j) = accepting l (a .layout) (judgement words l) e in
     record { sound = ap Sound same; v = v; n = n; s = s; accepts = ap (judgement words) (sym same) ∙ j }
 
 module _ (words : List ℕ) (a : Accepted) (e : judgedOf words ≡ judged.Accepted a) where

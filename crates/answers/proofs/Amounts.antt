@@ -9,9 +9,9 @@ use lib.ListN.{length, length-map}
 use borrow.Author.Tests.{leb-false}
 use Rattle.paper.specs.declared.Label.{Label}
 use Rattle.table.specs.declared.Layout.{Layout}
-use Rattle.strategy.specs.declared.Accepted.{Accepted}
-use Rattle.strategy.specs.declared.Judged.{Judged}
-use Rattle.strategy.specs.declared.Judged.the-variants as judged
+use Rattle.verdict.specs.declared.Accepted.{Accepted}
+use Rattle.verdict.specs.declared.Judged.{Judged}
+use Rattle.verdict.specs.declared.Judged.the-variants as judged
 use Rattle.strategy.specs.Judge.{judgedOf}
 use Rattle.filling.specs.Filling.{Outcome, refuses, fills, unlessShort, filledOf}
 use Rattle.answers.specs.Requests.{FitFilled, reported, keyOf, marksOf, assignedOf, unlessAbsent, orderOutcome, ofTransition, transitionOutcome, assignmentsOutcome, outcomeOf, orderOf, transitionOf, assignmentsOf, AcceptedAs}

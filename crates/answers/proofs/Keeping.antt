@@ -30,7 +30,7 @@ use Rattle.rows.specs.Walk.{Walkable}
 use Rattle.keys.specs.declared.Distinct.{Distinct}
 use Rattle.marks.specs.Marks.{isMarked, Marked, AllBelow}
 use Rattle.keys.specs.Keys.{keysAt}
-use Rattle.strategy.specs.declared.Accepted.{Accepted}
+use Rattle.verdict.specs.declared.Accepted.{Accepted}
 use Rattle.strategy.specs.Judge.{proposalIn}
 use Rattle.strategy.proofs.Held.{parts-of, Reached, reached, walkable}
 use Rattle.transitions.specs.Kept.{Keepable, MarkedKept}

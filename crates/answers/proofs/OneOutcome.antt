@@ -5,7 +5,7 @@ use lib.ListN.{length}
 use Rattle.paper.specs.Outcome.{OneOutcome}
 use Rattle.filling.specs.Filling.{Fills}
 use Rattle.filling.proofs.OneOutcome.{one-filling}
-use Rattle.strategy.specs.declared.Accepted.{Accepted}
+use Rattle.verdict.specs.declared.Accepted.{Accepted}
 use Rattle.answers.specs.Requests.{transitionOutcome, assignmentsOutcome}
 
 module _ (lent words : List ℕ) (k : ℕ) (a : Accepted) where

@@ -10,10 +10,10 @@ use filling::refused;
 use keys::keys_of;
 use marks::marks_of;
 use paper::Label;
-use strategy::Accepted;
 use transitions::assigned::count_kept;
 use transitions::assigned::fill_assigned;
 use transitions::kept::mark_kept;
+use verdict::Accepted;
 
 // Puts the bytes of transition k in front; gives how many chosen labels it keeps.
 fn keep(words: &[u16], a: Accepted, k: usize, kept: &mut [u8]) -> usize

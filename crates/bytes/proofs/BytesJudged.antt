@@ -7,8 +7,9 @@ use lib.ListN.{length, take, drop}
 use lib.Seq.{take-at}
 use borrow.Author.Tests.{eq-eqb, ne-eqb}
 use Rattle.ordering.specs.Prior.{written}
-use Rattle.strategy.specs.declared.Judged.{Judged}
-use Rattle.strategy.specs.Judge.{JudgedInto, refusedAt}
+use Rattle.verdict.specs.declared.Judged.{Judged}
+use Rattle.verdict.specs.Verdict.{refusedAt}
+use Rattle.strategy.specs.Judge.{JudgedInto}
 use Rattle.bytes.specs.Bytes.{wordsOf, WordsIn, judgedBytes, wordsLeft, orderLeftBy, JudgedBytes}
 
 module _ {bytes words : List ℕ} where

@@ -2,7 +2,7 @@
 use mathlib.Core.Path.{_≡_, refl}
 use mathlib.Core.List.{[], _∷_}
 use Rattle.written.specs.Example.{wordsOfP}
-use Rattle.strategy.specs.Judge.{refusedAt}
+use Rattle.verdict.specs.Verdict.{refusedAt}
 use Rattle.bytes.specs.Bytes.{wordsOf, judgedBytes}
 use Rattle.bytes.specs.Example.{bytesOfP}
 

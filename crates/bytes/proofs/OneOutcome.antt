@@ -6,7 +6,7 @@ use lib.ListN.{length}
 use Rattle.paper.specs.Outcome.{OneOutcome}
 use Rattle.paper.proofs.Outcome.{by-equation}
 use Rattle.ordering.specs.Prior.{written}
-use Rattle.strategy.specs.declared.Judged.{Judged}
+use Rattle.verdict.specs.declared.Judged.{Judged}
 use Rattle.bytes.specs.Bytes.{wordsOf, WordsIn, judgedBytes, wordsLeft, orderLeftBy, JudgedBytes}
 
 pub fill-words : (bytes lent : List ℕ) → OneOutcome (λ left r. WordsIn bytes lent left r)

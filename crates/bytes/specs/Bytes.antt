@@ -7,10 +7,11 @@ use mathlib.Core.Path.{_≡_}
 use lib.Dec.{eqb}
 use lib.ListN.{length, take}
 use Rattle.ordering.specs.Prior.{written}
-use Rattle.strategy.specs.declared.Accepted.{Accepted}
-use Rattle.strategy.specs.declared.Judged.{Judged}
-use Rattle.strategy.specs.declared.Judged.the-variants as judged
-use Rattle.strategy.specs.Judge.{refusedAt, judgedOf, orderLeft, JudgedInto}
+use Rattle.verdict.specs.declared.Accepted.{Accepted}
+use Rattle.verdict.specs.declared.Judged.{Judged}
+use Rattle.verdict.specs.declared.Judged.the-variants as judged
+use Rattle.verdict.specs.Verdict.{refusedAt}
+use Rattle.strategy.specs.Judge.{judgedOf, orderLeft, JudgedInto}
 
 -- the words of bytes, low byte first; a byte left over makes none
 unfoldable pub wordsOf : List ℕ → List ℕ

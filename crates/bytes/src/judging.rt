@@ -5,8 +5,8 @@ ghost use lib.ListN.{length};
 ghost use Rattle.bytes.specs.Bytes.{JudgedBytes};
 use crate::words::fill_words;
 use sections::Refusal;
-use strategy::Judged;
 use strategy::judge_into;
+use verdict::Judged;
 
 // The answer to any bytes, at most 65,536. Of accepted ones the words stand in front of `words`, and the reported order in front of
 // `order`; an odd number of bytes leaves both as they were.

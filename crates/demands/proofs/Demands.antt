@@ -29,10 +29,11 @@ use Rattle.table.specs.declared.Checked.the-variants.{Sound, Refused}
 use Rattle.table.specs.Sections.{checked, chosenIn}
 use Rattle.written.specs.Tables.{Understood, formulaIn}
 use Rattle.net.proofs.Spans.{labels-between}
-use Rattle.strategy.specs.declared.Accepted.{Accepted}
-use Rattle.strategy.specs.declared.Judged.{Judged}
-use Rattle.strategy.specs.declared.Judged.the-variants as judged
-use Rattle.strategy.specs.Judge.{judgedOf, proposalIn, acceptedWith}
+use Rattle.verdict.specs.declared.Accepted.{Accepted}
+use Rattle.verdict.specs.declared.Judged.{Judged}
+use Rattle.verdict.specs.declared.Judged.the-variants as judged
+use Rattle.verdict.specs.Verdict.{acceptedWith}
+use Rattle.strategy.specs.Judge.{judgedOf, proposalIn}
 use Rattle.strategy.proofs.Exactly.{accepted-exactly}
 use Rattle.strategy.proofs.Placed.{order-length}
 use Rattle.transitions.proofs.MarkedBytes.{bytes-at}

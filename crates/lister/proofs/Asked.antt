@@ -10,9 +10,9 @@ use Rattle.paper.specs.Formula.{ℓ}
 use Rattle.keys.specs.declared.Distinct.{Distinct}
 use Rattle.marks.specs.Marks.{Marked}
 use Rattle.keys.specs.Keys.{keysAt}
-use Rattle.strategy.specs.declared.Accepted.{Accepted}
-use Rattle.strategy.specs.declared.Judged.{Judged}
-use Rattle.strategy.specs.declared.Judged.the-variants as judged
+use Rattle.verdict.specs.declared.Accepted.{Accepted}
+use Rattle.verdict.specs.declared.Judged.{Judged}
+use Rattle.verdict.specs.declared.Judged.the-variants as judged
 use Rattle.bytes.specs.Bytes.{wordsOf, JudgedBytes}
 use Rattle.answers.specs.Requests.{reported, Ordered}
 use Rattle.answers.proofs.Accepted.{is-understood, few-transitions, few-chosen, reported-length, order-stands, order-as-long}

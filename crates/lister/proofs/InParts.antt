@@ -8,8 +8,8 @@ use mathlib.Core.List.{List, _++_, map}
 use lib.ListN.{take, length, drop}
 use lib.Seq.{take-at}
 use Rattle.sections.specs.declared.Refusal.{Refusal}
-use Rattle.strategy.specs.declared.Accepted.{Accepted}
-use Rattle.strategy.specs.declared.Judged.the-variants as judged
+use Rattle.verdict.specs.declared.Accepted.{Accepted}
+use Rattle.verdict.specs.declared.Judged.the-variants as judged
 use Rattle.answers.specs.Requests.{reported}
 use Rattle.listing.specs.Text.{refusedLine}
 use Rattle.listing.specs.Placed.{placed, Put}

@@ -18,7 +18,7 @@ use Rattle.written.specs.Tables.{formulaIn}
 use Rattle.written.specs.Written.{labelsOn}
 use Rattle.keys.specs.declared.Distinct.{Distinct}
 use Rattle.marks.specs.Marks.{Marked}
-use Rattle.strategy.specs.declared.Accepted.{Accepted}
+use Rattle.verdict.specs.declared.Accepted.{Accepted}
 use Rattle.strategy.specs.Judge.{proposalIn}
 use Rattle.transitions.specs.Kept.{Keepable, MarkedKept}
 use Rattle.transitions.specs.Assigned.{keptOf, Fillable}

@@ -8,8 +8,8 @@ use Rattle.table.specs.Sections.{rowsIn}
 use Rattle.keys.specs.declared.Distinct.{Distinct}
 use Rattle.marks.specs.Marks.{Marked}
 use Rattle.keys.specs.Keys.{keysAt}
-use Rattle.strategy.specs.declared.Accepted.{Accepted}
-use Rattle.strategy.specs.declared.Judged.the-variants as judged
+use Rattle.verdict.specs.declared.Accepted.{Accepted}
+use Rattle.verdict.specs.declared.Judged.the-variants as judged
 use Rattle.strategy.specs.Judge.{proposalIn}
 use Rattle.bytes.specs.Bytes.{wordsOf, judgedBytes}
 use Rattle.answers.specs.Requests.{Ordered}

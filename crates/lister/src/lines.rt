@@ -9,9 +9,9 @@ use keys::Distinct;
 use listing::put_accepted;
 use listing::put_order;
 use listing::put_transition;
-use strategy::Accepted;
 use transitions::assigned::fill_assigned;
 use transitions::kept::mark_kept;
+use verdict::Accepted;
 
 // The number of the next transition, and the place behind the lines that were put.
 pub struct Part {

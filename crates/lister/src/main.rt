@@ -8,7 +8,7 @@ use bytes::judging::judge_bytes;
 use libc::STDIN_FILENO;
 use parts::list_accepted;
 use parts::list_refused;
-use strategy::Judged;
+use verdict::Judged;
 
 // Lists the table that bytes write.
 fn list(bytes: &[u8])

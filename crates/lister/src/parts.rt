@@ -15,8 +15,8 @@ use listing::put_refused;
 use marks::marks_of;
 use paper::Label;
 use sections::Refusal;
-use strategy::Accepted;
-use strategy::Judged;
+use verdict::Accepted;
+use verdict::Judged;
 
 // Writes the first part of the listing of the bytes; says whether it could.
 fn write_first(bytes: &[u8], part: &[u8]) -> bool

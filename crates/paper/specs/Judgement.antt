@@ -48,11 +48,19 @@ onCycles f A = those (onCycle (before f A) A) A
 abbrev pub mostTransitions : ℕ
 mostTransitions = 65535
 
+-- 14, or an acceptance
+abbrev pub judgeCount : ℕ → Formula → List Label → Judgement
+judgeCount #V f A =
+    cond (ltb mostTransitions (length (keys f A))) (refused 14 0) (accepted #V (length (labels f)) (length A) (length (keys f A)))
+
+-- 13, and what follows it
+abbrev pub judgeOrder : ℕ → Formula → List Label → Judgement
+judgeOrder #V f A = refuse 13 (map (λ l. l .0) (onCycles f A)) (judgeCount #V f A)
+
+-- 10, 11, 12, and what follows them
 abbrev pub judge : ℕ → Formula → List Label → Judgement
 judge #V f A =
     refuse 10 (map (λ l. l .0) (strangers f A))
     (refuse 11 (map (λ v. v .0) (missed #V f A))
     (refuse 12 (map (λ v. v .0) (doubled #V f A))
-    (refuse 13 (map (λ l. l .0) (onCycles f A))
-    (cond (ltb mostTransitions (length (keys f A))) (refused 14 0)
-    (accepted #V (length (labels f)) (length A) (length (keys f A)))))))
+    (judgeOrder #V f A)))

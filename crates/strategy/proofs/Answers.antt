@@ -9,7 +9,7 @@ use mathlib.Core.List.{List, [], _∷_, map, List·Memᴰ}
 use lib.Dec.{eqb, ltb}
 use lib.ListN.{length, getD, take, drop, length-map}
 use lib.Seq.{take-at}
-use borrow.Author.Tests.{eqb-false, ltb-false, lt-ltb, le-ltb, not-false}
+use borrow.Author.Tests.{eqb-false, ltb-false, le-ltb, not-false}
 use Rattle.paper.specs.declared.Label.{Label}
 use Rattle.paper.specs.declared.Variable.{Variable}
 use Rattle.paper.specs.Lists.{anyOf, those}
@@ -19,7 +19,8 @@ use Rattle.paper.specs.Before.{before}
 use Rattle.paper.specs.Order.{order}
 use Rattle.paper.specs.Strategy.{Homogeneous, chosenOn, MinimalCovering}
 use Rattle.paper.specs.Transition.{keys}
-use Rattle.paper.specs.Judgement.{Judgement, accepted, refused, refuse, variables, strangers, missed, doubled, onCycles, mostTransitions, judge}
+use Rattle.paper.specs.Judgement.{Judgement, accepted, refused, refuse, variables, strangers, missed, doubled, onCycles}
+use Rattle.paper.specs.Judgement.{mostTransitions, judgeCount, judgeOrder, judge}
 use Rattle.paper.proofs.Bools.{not-so}
 use Rattle.paper.proofs.Lists.{to-any, of-none}
 use Rattle.paper.proofs.Labels.{has-mem}
@@ -30,7 +31,7 @@ use Rattle.table.specs.declared.Layout.{Layout}
 use Rattle.sections.specs.declared.Refusal.{Refusal}
 use Rattle.table.specs.declared.Checked.the-variants.{Sound, Refused}
 use Rattle.entries.specs.First.{first}
-use Rattle.table.specs.Sections.{layout, checked, rowsIn, readsIn, chosenIn}
+use Rattle.table.specs.Sections.{checked, rowsIn, readsIn, chosenIn}
 use Rattle.written.specs.Tables.{formulaIn}
 use Rattle.written.proofs.Tables.{understood}
 use Rattle.cover.specs.declared.Covering.the-variants.{Missed, Doubled}
@@ -41,9 +42,12 @@ use Rattle.keys.specs.Keys.{total, keysAt}
 use Rattle.cover.proofs.CoveringSays.{covering-says, gives-covered}
 use Rattle.keys.proofs.KeyNumbers.{keys-past-limit, keys-number}
 use Rattle.ordering.specs.Prior.{lowestCyclic, written, Filled}
-use Rattle.strategy.specs.declared.Judged.{Judged}
-use Rattle.strategy.specs.declared.Judged.the-variants as answer
-use Rattle.strategy.specs.Judge.{proposalOf, proposalIn, acceptedWith, refusedAt, answerOf, judgedOf, orderOf, comesLate, orderLeft, JudgedInto, Parts, formulaOf, isStranger, Covered, judgeCount, judgeOrder, countedAs, OrderedParts, JudgedParts}
+use Rattle.verdict.specs.declared.Judged.{Judged}
+use Rattle.verdict.specs.declared.Judged.the-variants as answer
+use Rattle.verdict.specs.Verdict.{acceptedWith, refusedAt, answerOf, isStranger, countedAs}
+use Rattle.verdict.proofs.Answers.{accepting, counted-answer}
+use Rattle.strategy.specs.Judge.{proposalOf, proposalIn, judgedOf, wordsOfOrder, comesLate, orderLeft, JudgedInto}
+use Rattle.strategy.specs.Judge.{Parts, formulaOf, Covered, OrderedParts, JudgedParts}
 use Rattle.strategy.proofs.Held.{parts-of, lentRows, lentReads, lentChosen, of-lent, walkable, few-labels}
 use Rattle.strategy.proofs.Strangers.{first-stranger, no-stranger}
 use Rattle.strategy.proofs.Placed.{choice, some-cycle, order-length, order-refuses, order-passes, order-left}
@@ -63,25 +67,6 @@ module _ (#V : ℕ) (f : Formula) (A : List Label) where
       let some = eqb-false (chosenOn f A b v) 0 (never (λ v b. eqb (chosenOn f A b v) 0) e v h b t) in
       let few = ltb-false 1 (chosenOn f A b v) (never (λ v b. ltb 1 (chosenOn f A b v)) d v h b t) in
       omega arith
-
--- 14: the count t over the rows stands for the number of keys m
-counted-answer : (l : Layout) (v n s m t : ℕ) → ltb mostTransitions t ≡ ltb mostTransitions m → (t ≤ mostTransitions → t ≡ m)
-    → answerOf l (cond (ltb mostTransitions m) (refused 14 0) (accepted v n s m)) ≡ countedAs l t
-unfolding countedAs
-counted-answer l v n s m t past same = rw (← past) (by (ltb mostTransitions t) refl)
-  where
-    by : (b : Bool) → ltb mostTransitions t ≡ b → answerOf l (cond b (refused 14 0) (accepted v n s m)) ≡ cond b (refusedAt 14 0) (acceptedWith l t)
-    by true e = refl
-    by false e = ap (acceptedWith l) (sym (same (ltb-false mostTransitions t e)))
-
-module _ (l : Layout) {m n : ℕ} (e : n ≡ m) where
-  pub counted-past : {r : Judged} → mostTransitions < n → r ≡ refusedAt 14 0 → r ≡ countedAs l m
-  unfolding countedAs
-  counted-past h q = rw (← e, lt-ltb mostTransitions n h) q
-
-  pub counted-fits : n ≤ mostTransitions → acceptedWith l n ≡ countedAs l m
-  unfolding countedAs
-  counted-fits h = rw (← e, le-ltb mostTransitions n h)
 
 pub count-answers : {rows reads chosen : List ℕ} {#V #N : ℕ} {marks : List ℕ} (l : Layout) → Covered rows reads chosen #V #N → Marked (proposalOf chosen) marks
     → answerOf l (judgeCount #V (formulaOf rows reads) (proposalOf chosen)) ≡ countedAs l (total (keysAt rows marks 64 0))
@@ -112,7 +97,7 @@ module _ (rows reads chosen : List ℕ) where
   judgementBy #V = judge #V (formulaOf rows reads) (proposalOf chosen)
 
   abbrev reported : List ℕ
-  reported = orderOf (formulaOf rows reads) (proposalOf chosen)
+  reported = wordsOfOrder (formulaOf rows reads) (proposalOf chosen)
 
   abbrev leftIf : List ℕ → Bool → List ℕ
   leftIf lent late = cond late (written reported lent) lent
@@ -204,29 +189,16 @@ pub refused-whole : {words : List ℕ} {x : Refusal} (lent : List ℕ) → check
 unfolding judgedOf orderLeft
 refused-whole lent e = record { answered = rw e; left-so = rw e; ordered = λ l t q. let z : _≡_ {A = ℕ} 0 1 = cc in absurd (omega arith) }
 
--- an answer that accepts
-abbrev layoutIn : Judged → Layout
-layoutIn (answer.Accepted a) = a .layout
-layoutIn (answer.Refused x) = layout 0 0 0 0
-
-abbrev transitionsIn : Judged → ℕ
-transitionsIn (answer.Accepted a) = a .transitions
-transitionsIn (answer.Refused x) = 0
-
-pub accepting : (l m : Layout) (j : Judgement) {t : ℕ} → answerOf l j ≡ acceptedWith m t → (l ≡ m) × (v n s : ℕ) × (j ≡ accepted v n s t)
-accepting l m (accepted v n s t) e = (ap layoutIn e, v, n, s, ap (λ k. accepted v n s k) (ap transitionsIn e))
-accepting l m (refused number place) e = let z : _≡_ {A = ℕ} 0 1 = cc in absurd (omega arith)
-
 pub judged-whole : {words lent left : List ℕ} {l : Layout} {r : Judged} → checked words ≡ Sound l
     → JudgedParts (rowsIn words l) (readsIn words l) (chosenIn words l) l lent left r → JudgedInto words lent left r
 unfolding judgedOf orderLeft
 judged-whole {words} {lent} {left} {l} {r} e j = record { answered = rw e (j .answered); left-so = rw e (j .left-so); ordered = in-front }
   where
-    in-front : (m : Layout) (t : ℕ) → r ≡ acceptedWith m t → take (m .chosen) left ≡ orderOf (formulaIn words m) (proposalIn words m)
+    in-front : (m : Layout) (t : ℕ) → r ≡ acceptedWith m t → take (m .chosen) left ≡ wordsOfOrder (formulaIn words m) (proposalIn words m)
     in-front m t q =
         let (same, v, n, s, a) = accepting l m _ (sym (j .answered) ∙ q) in
-        subst (λ m. take (m .chosen) left ≡ orderOf (formulaIn words m) (proposalIn words m)) same
-        (subst (λ k. take k left ≡ orderOf (formulaIn words l) (proposalIn words l)) (understood words l e .chosen-there) (fills (parts-of words l e) j a))
+        subst (λ m. take (m .chosen) left ≡ wordsOfOrder (formulaIn words m) (proposalIn words m)) same
+        (subst (λ k. take k left ≡ wordsOfOrder (formulaIn words l) (proposalIn words l)) (understood words l e .chosen-there) (fills (parts-of words l e) j a))
 
 -- the same of the parts as they are lent
 pub judged-lent : {words lent left : List ℕ} {l : Layout} {r : Judged} (e : checked words ≡ Sound l)

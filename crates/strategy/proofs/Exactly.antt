@@ -13,8 +13,9 @@ use Rattle.table.specs.declared.Checked.{Checked}
 use Rattle.table.specs.declared.Checked.the-variants.{Sound, Refused}
 use Rattle.table.specs.Sections.{checked}
 use Rattle.written.specs.Tables.{formulaIn}
-use Rattle.strategy.specs.Judge.{proposalIn, acceptedWith, answerOf, judgedAs, judgedOf, AcceptedSo, AcceptedExactly}
-use Rattle.strategy.proofs.Answers.{accepting}
+use Rattle.verdict.specs.Verdict.{acceptedWith, answerOf}
+use Rattle.verdict.proofs.Answers.{accepting}
+use Rattle.strategy.specs.Judge.{proposalIn, judgedAs, judgedOf, AcceptedSo, AcceptedExactly}
 
 module _ (words : List ℕ) (l : Layout) where
   abbrev judgement : Judgement

@@ -6,7 +6,8 @@ use Rattle.table.specs.Sections.{layout, rowsIn, readsIn, chosenIn}
 use Rattle.rows.specs.Formula.{starAt, childrenAt, nodeAt, formulaAt}
 use Rattle.written.specs.Example.{wordsOfP}
 use Rattle.written.proofs.Example.{P-is-sound}
-use Rattle.strategy.specs.Judge.{acceptedWith, judgedAs, judgedOf, Parts, Covered}
+use Rattle.verdict.specs.Verdict.{acceptedWith}
+use Rattle.strategy.specs.Judge.{judgedAs, judgedOf, Parts, Covered}
 use Rattle.strategy.proofs.Held.{parts-of}
 
 abbrev layoutOfP : Layout

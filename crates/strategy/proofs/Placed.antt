@@ -13,7 +13,7 @@ use Rattle.paper.specs.Lists.{those}
 use Rattle.paper.specs.Formula.{ℓ, same, has, Rising, Formula}
 use Rattle.paper.specs.Before.{before}
 use Rattle.paper.specs.Order.{Acyclic, isReady, greedy, order, onCycle}
-use Rattle.paper.specs.Judgement.{refused, onCycles}
+use Rattle.paper.specs.Judgement.{refused, onCycles, judgeCount, judgeOrder}
 use Rattle.paper.specs.Statements.{OrderExists}
 use Rattle.paper.proofs.Bools.{or-left, or-right, not-so, pick}
 use Rattle.paper.proofs.Lists.{to-none, those-lt}
@@ -26,7 +26,7 @@ use Rattle.net.specs.Net.{Chosen, Net}
 use Rattle.net.proofs.PriorIsBefore.{order-by-rows, cycle-by-rows}
 use Rattle.ordering.specs.Prior.{ordered, isCyclic, lowestCyclic, labelled, written, Filled}
 use Rattle.fingers.specs.Ready.{Ready}
-use Rattle.strategy.specs.Judge.{Parts, Covered, formulaOf, proposalOf, orderOf, judgeOrder, judgeCount}
+use Rattle.strategy.specs.Judge.{Parts, Covered, formulaOf, proposalOf, wordsOfOrder}
 use Rattle.strategy.proofs.Held.{parts-write, rows-are, ascend-all, chosen-rows, ready}
 use Rattle.strategy.proofs.Strangers.{offender, none-offends, kinds-of}
 
@@ -131,7 +131,7 @@ module _ {rows reads chosen : List ℕ} {#V #N : ℕ} (c : Covered rows reads ch
   by-numbers = order-by-rows rows reads f (parts-write p) chosen #N (rows-are p) (p .below) kinds (ascend-all chosen (p .ascends))
 
   -- the labels of the numbers that are placed are the reported order
-  order-is : orderOf f A ≡ labelled chosen (ordered rows reads chosen)
+  order-is : wordsOfOrder f A ≡ labelled chosen (ordered rows reads chosen)
   order-is = ap (map (λ l. l .0)) by-numbers ∙ map-map (λ (l : Label). l .0) (λ k. ℓ (getD chosen k 0)) (ordered rows reads chosen)
 
   many-placed : length (order (before f A) A) ≡ length (ordered rows reads chosen)
@@ -161,5 +161,5 @@ module _ {rows reads chosen : List ℕ} {#V #N : ℕ} (c : Covered rows reads ch
   pub order-passes : length chosen ≤ length (ordered rows reads chosen) → judgeOrder #V f A ≡ judgeCount #V f A
   order-passes h = let e = all-placed f A (omega (arith, many-placed, length-map chosen ℓ)) in rw e
 
-  pub order-left : {lent left : List ℕ} {count : ℕ} → Filled rows reads chosen lent left count → left ≡ written (orderOf f A) lent
+  pub order-left : {lent left : List ℕ} {count : ℕ} → Filled rows reads chosen lent left count → left ≡ written (wordsOfOrder f A) lent
   order-left {lent} d = d .filled ∙ ap (λ o. written o lent) (sym order-is)

@@ -2,32 +2,32 @@
 -- table's own checks find them, then 10 to 14 as document 001's judgement of the formula that the words write; or what is known
 -- of an accepted table.
 use Prim.Native.Nat.{ℕ, _*_, _<_, _≤_}
-use mathlib.Core.Bool.{Bool, true, cond, not}
+use mathlib.Core.Bool.{Bool, true, cond}
 use mathlib.Core.Path.{_≡_}
 use mathlib.Core.Logic.{_↔_}
 use mathlib.Core.List.{List, [], map}
-use lib.Dec.{eqb, ltb}
+use lib.Dec.{ltb}
 use lib.ListN.{length, getD, take}
 use Rattle.paper.specs.declared.Label.{Label}
-use Rattle.paper.specs.Formula.{ℓ, labels, Formula, WellFormed}
+use Rattle.paper.specs.Formula.{ℓ, Formula, WellFormed}
 use Rattle.paper.specs.Before.{before}
 use Rattle.paper.specs.Order.{order}
 use Rattle.paper.specs.Strategy.{Strategy}
 use Rattle.paper.specs.Transition.{keys}
-use Rattle.paper.specs.Judgement.{Judgement, accepted, refused, refuse, strangers, missed, doubled, onCycles, mostTransitions, judge}
+use Rattle.paper.specs.Judgement.{Judgement, accepted, refused, strangers, missed, doubled, judgeOrder, judge}
 use Rattle.table.specs.declared.Layout.{Layout}
 use Rattle.table.specs.declared.Checked.{Checked}
 use Rattle.table.specs.declared.Checked.the-variants.{Sound, Refused}
 use Rattle.entries.specs.First.{first}
-use Rattle.rows.specs.Rows.{kindOf, keepsRules, isDeep}
-use Rattle.sections.specs.Sections.{refusal}
+use Rattle.rows.specs.Rows.{keepsRules, isDeep}
 use Rattle.table.specs.Sections.{checked, chosenIn}
 use Rattle.rows.specs.Formula.{formulaAt}
 use Rattle.written.specs.Written.{Ascend}
 use Rattle.written.specs.Tables.{formulaIn}
 use Rattle.ordering.specs.Prior.{written}
-use Rattle.strategy.specs.declared.Judged.{Judged}
-use Rattle.strategy.specs.declared.Judged.the-variants as answer
+use Rattle.verdict.specs.declared.Judged.{Judged}
+use Rattle.verdict.specs.declared.Judged.the-variants as answer
+use Rattle.verdict.specs.Verdict.{acceptedWith, answerOf}
 
 -- the proposal that a strategy section makes
 abbrev pub proposalOf : List ℕ → List Label
@@ -35,18 +35,6 @@ proposalOf chosen = map ℓ chosen
 
 abbrev pub proposalIn : List ℕ → Layout → List Label
 proposalIn words l = proposalOf (chosenIn words l)
-
--- an acceptance, and a refusal, as answers
-abbrev pub acceptedWith : Layout → ℕ → Judged
-acceptedWith l t = answer.Accepted (record { layout = l; transitions = t })
-
-abbrev pub refusedAt : ℕ → ℕ → Judged
-refusedAt number place = answer.Refused (refusal number place)
-
--- a judgement of the formula of words laid out so, as an answer
-abbrev pub answerOf : Layout → Judgement → Judged
-answerOf l (accepted v n s t) = acceptedWith l t
-answerOf l (refused number place) = refusedAt number place
 
 abbrev pub judgedAs : List ℕ → Checked → Judged
 judgedAs words (Refused r) = answer.Refused r
@@ -57,8 +45,8 @@ unfoldable pub judgedOf : List ℕ → Judged
 judgedOf words = judgedAs words (checked words)
 
 -- the reported order of a formula with a proposal, as words; where there is no order, as far as it goes
-abbrev pub orderOf : Formula → List Label → List ℕ
-orderOf f A = map (λ l. l .0) (order (before f A) A)
+abbrev pub wordsOfOrder : Formula → List Label → List ℕ
+wordsOfOrder f A = map (λ l. l .0) (order (before f A) A)
 
 -- the order is worked out before the judgement is known: it is an acceptance, or a refusal past 12
 abbrev pub comesLate : Judgement → Bool
@@ -72,7 +60,7 @@ leftBy j o lent = cond (comesLate j) (written o lent) lent
 abbrev pub leftAs : List ℕ → Checked → List ℕ → List ℕ
 leftAs words (Refused r) lent = lent
 leftAs words (Sound l) lent =
-    leftBy (judge (l .variables) (formulaIn words l) (proposalIn words l)) (orderOf (formulaIn words l) (proposalIn words l)) lent
+    leftBy (judge (l .variables) (formulaIn words l) (proposalIn words l)) (wordsOfOrder (formulaIn words l) (proposalIn words l)) lent
 
 -- what is left in words lent for the order
 unfoldable pub orderLeft : List ℕ → List ℕ → List ℕ
@@ -83,7 +71,7 @@ orderLeft words lent = leftAs words (checked words) lent
 pub record JudgedInto (words lent left : List ℕ) (r : Judged) : Type 0 where
   pub answered : r ≡ judgedOf words
   pub left-so : left ≡ orderLeft words lent
-  pub ordered : (l : Layout) (t : ℕ) → r ≡ acceptedWith l t → take (l .chosen) left ≡ orderOf (formulaIn words l) (proposalIn words l)
+  pub ordered : (l : Layout) (t : ℕ) → r ≡ acceptedWith l t → take (l .chosen) left ≡ wordsOfOrder (formulaIn words l) (proposalIn words l)
 
 -- What an acceptance says: sound words, whose strategy section is an assignment strategy of their formula (document 001,
 -- Definition 4), with t transitions, at most 65,535.
@@ -112,10 +100,6 @@ pub record Parts (rows reads chosen : List ℕ) (#V #N : ℕ) : Type 0 where
   pub below : (k : ℕ) → k < length chosen → getD chosen k 0 < #N
   pub ascends : Ascend chosen
 
--- the k-th chosen label is no candidate
-abbrev pub isStranger : List ℕ → List ℕ → ℕ → Bool
-isStranger rows chosen k = not (eqb (kindOf rows (getD chosen k 0)) 2)
-
 -- the formula of parts
 abbrev pub formulaOf : List ℕ → List ℕ → Formula
 formulaOf rows reads = formulaAt rows reads 64 0
@@ -127,25 +111,13 @@ pub record Covered (rows reads chosen : List ℕ) (#V #N : ℕ) : Type 0 where
   pub none-missed : missed #V (formulaOf rows reads) (proposalOf chosen) ≡ []
   pub none-doubled : doubled #V (formulaOf rows reads) (proposalOf chosen) ≡ []
 
--- 14, or an acceptance; 13, and what follows it
-abbrev pub judgeCount : ℕ → Formula → List Label → Judgement
-judgeCount #V f A =
-    cond (ltb mostTransitions (length (keys f A))) (refused 14 0) (accepted #V (length (labels f)) (length A) (length (keys f A)))
-
-abbrev pub judgeOrder : ℕ → Formula → List Label → Judgement
-judgeOrder #V f A = refuse 13 (map (λ l. l .0) (onCycles f A)) (judgeCount #V f A)
-
--- the answer by a number of transitions
-unfoldable pub countedAs : Layout → ℕ → Judged
-countedAs l n = cond (ltb mostTransitions n) (refusedAt 14 0) (acceptedWith l n)
-
 module _ (rows reads chosen : List ℕ) (l : Layout) (lent left : List ℕ) (r : Judged) where
   -- the answer of the last two checks, and of all five; and what is left in the words lent for the order
   pub record OrderedParts : Type 0 where
     pub answered : r ≡ answerOf l (judgeOrder (l .variables) (formulaOf rows reads) (proposalOf chosen))
-    pub left-so : left ≡ written (orderOf (formulaOf rows reads) (proposalOf chosen)) lent
+    pub left-so : left ≡ written (wordsOfOrder (formulaOf rows reads) (proposalOf chosen)) lent
 
   pub record JudgedParts : Type 0 where
     pub answered : r ≡ answerOf l (judge (l .variables) (formulaOf rows reads) (proposalOf chosen))
     pub left-so : left
-        ≡ leftBy (judge (l .variables) (formulaOf rows reads) (proposalOf chosen)) (orderOf (formulaOf rows reads) (proposalOf chosen)) lent
+        ≡ leftBy (judge (l .variables) (formulaOf rows reads) (proposalOf chosen)) (wordsOfOrder (formulaOf rows reads) (proposalOf chosen)) lent

@@ -1,69 +1,21 @@
 // The checks past the table's own, in their order: 10, 11 and 12, 13, 14.
 ghost use mathlib.Core.Path.{_≡_};
-ghost use Prim.Native.Nat.{ℕ, _+_, _*_, _≤_, _<_};
 ghost use mathlib.Core.List.{map};
-ghost use lib.ListN.{length, getD};
+ghost use lib.ListN.{length};
 ghost use Rattle.paper.specs.Formula.{ℓ};
-ghost use Rattle.entries.specs.First.{first};
-ghost use Rattle.rows.specs.Walk.{Walkable};
 ghost use Rattle.marks.specs.Marks.{Marked};
-ghost use Rattle.keys.specs.Keys.{total, keysAt};
-ghost use Rattle.strategy.specs.Judge.{refusedAt, isStranger, countedAs, Parts, Covered, OrderedParts, JudgedParts};
-use crate::Accepted;
-use crate::Judged;
+ghost use Rattle.strategy.specs.Judge.{Parts, Covered, OrderedParts, JudgedParts};
 use cover::Covering;
 use cover::covering_of;
-use keys::keys_of;
-use keys::total_of;
 use marks::marks_of;
 use net::note_net;
 use ordering::cycle::lowest_on_cycle;
 use ordering::order::order;
-use paper::Label;
-use rows::kind_of;
-use sections::Refusal;
 use table::Layout;
-
-// A refusal as an answer.
-fn refused(number: u8, place: u16) -> Judged
-    ensures { λ r. ⌜ r ≡ refusedAt number place ⌝ }
-{
-    Judged::Refused(Refusal {
-        number,
-        place: place as u32,
-    })
-}
-
-// The number of the first chosen label that is no candidate, or how many there are.
-fn first_stranger(rows: &[u16], chosen: &[u16]) -> usize
-    requires { ⌜ ((k : ℕ) → k < length (now chosen) → 4 * getD (now chosen) k 0 + 4 ≤ length (now rows)) ⌝ }
-    ensures { λ r. ⌜ r ≡ first (isStranger (now (rows .entry)) (now (chosen .entry))) (length (now (chosen .entry))) ⌝ }
-{
-    let mut k = 0;
-    while k < chosen.len() {
-        if kind_of(rows, Label(chosen[k])) != 2 {
-            return k;
-        }
-        k += 1;
-    }
-    k
-}
-
-// 14, or an acceptance.
-fn counted(rows: &[u16], marks: &[u8; 4096], l: Layout) -> Judged
-    requires { ⌜ Walkable (now rows) (l .rows) 0 ⌝ }
-    ensures { λ r. ⌜ r ≡ countedAs l (total (keysAt (now (rows .entry)) (now (marks .entry)) 64 0)) ⌝ }
-{
-    let n = l.rows as u16;
-    let transitions = total_of(keys_of(rows, marks, n, Label(0), 64));
-    if 65535 < transitions {
-        return refused(14, 0);
-    }
-    Judged::Accepted(Accepted {
-        layout: l,
-        transitions: transitions as usize,
-    })
-}
+use verdict::Judged;
+use verdict::counted;
+use verdict::first_stranger;
+use verdict::refused;
 
 // 13, and what follows it.
 fn ordered(

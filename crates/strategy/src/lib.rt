@@ -2,24 +2,11 @@
 ghost use mathlib.Core.Path.{_≡_};
 ghost use lib.ListN.{length};
 ghost use Rattle.strategy.specs.Judge.{judgedOf, JudgedInto};
-use sections::Refusal;
 use table::Checked;
-use table::Layout;
 use table::check;
+use verdict::Judged;
 
 mod checks; // 10 to 14, one after another
-
-// What is known of an accepted table: its counts and positions, and the number of its transitions.
-pub struct Accepted {
-    pub layout: Layout,
-    pub transitions: usize,
-}
-
-// The answer to any words.
-pub enum Judged {
-    Accepted(Accepted),
-    Refused(Refusal),
-}
 
 // The answer to any words, with the reported order of an accepted table in the first S words of `order`. The caller says that the
 // array has its length: a loan of one does not tell.
