@@ -17,7 +17,7 @@ use Rattle.paper.proofs.Judgement.{accepted-exactly, accepted-only-so}
 use Rattle.table.specs.declared.Layout.{Layout}
 use Rattle.table.specs.declared.Checked.{Checked}
 use Rattle.table.specs.declared.Checked.the-variants.{Sound, Refused}
-use Rattle.table.specs.Sections.{checked, chosenIn}
+use Rattle.table.specs.Table.{checked, chosenIn}
 use Rattle.written.specs.Tables.{Understood, formulaIn}
 use Rattle.written.proofs.Tables.{understood}
 use Rattle.ordering.specs.Prior.{written}

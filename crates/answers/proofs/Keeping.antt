@@ -23,7 +23,7 @@ use Rattle.paper.specs.Statements.{NumbersSay}
 use Rattle.paper.proofs.Order.{reported-is-order}
 use Rattle.table.specs.declared.Layout.{Layout}
 use Rattle.written.specs.Tables.{Understood, formulaIn}
-use Rattle.table.specs.Sections.{rowsIn, readsIn, chosenIn}
+use Rattle.table.specs.Table.{rowsIn, readsIn, chosenIn}
 use Rattle.rows.proofs.Rules.{rest}
 use Rattle.written.proofs.Words.{map-back, word-mem}
 use Rattle.rows.specs.Walk.{Walkable}

@@ -5,7 +5,7 @@ use Rattle.entries.specs.First.{first}
 use Rattle.rows.specs.Rows.{formOf, meets, takenBefore, falseRule, starRule, candidateRule, joinRule, boundRule, endsWithin, keepsRules, roundOf}
 use Rattle.entries.specs.Entries.{ascend}
 use Rattle.sections.specs.Sections.{openAt, variablesAt, readsAt, rowsAt, strategyAt, endAt}
-use Rattle.table.specs.Sections.{sections, checked}
+use Rattle.table.specs.Table.{sections, checked}
 use Rattle.rows.specs.Formula.{starAt, childrenAt, nodeAt, formulaAt}
 use Rattle.strategy.specs.Judge.{judgedOf}
 use Rattle.answers.specs.Requests.{judgeOf, outcomeOf, ofTransition}

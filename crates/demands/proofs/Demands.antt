@@ -26,7 +26,7 @@ use Rattle.paper.proofs.Theorems.{theorem2, keys-listed, key-length, carried-ou
 use Rattle.table.specs.declared.Layout.{Layout}
 use Rattle.table.specs.declared.Checked.{Checked}
 use Rattle.table.specs.declared.Checked.the-variants.{Sound, Refused}
-use Rattle.table.specs.Sections.{checked, chosenIn}
+use Rattle.table.specs.Table.{checked, chosenIn}
 use Rattle.written.specs.Tables.{Understood, formulaIn}
 use Rattle.net.proofs.Spans.{labels-between}
 use Rattle.verdict.specs.declared.Accepted.{Accepted}

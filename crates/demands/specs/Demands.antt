@@ -18,7 +18,7 @@ use Rattle.paper.specs.Statements.{KeysAreListed}
 use Rattle.table.specs.declared.Layout.{Layout}
 use Rattle.sections.specs.declared.Refusal.{Refusal}
 use Rattle.table.specs.declared.Checked.the-variants.{Sound}
-use Rattle.table.specs.Sections.{checked}
+use Rattle.table.specs.Table.{checked}
 use Rattle.written.specs.Tables.{formulaIn}
 use Rattle.strategy.specs.Judge.{proposalIn}
 use Rattle.filling.specs.declared.Filled.the-variants as filled

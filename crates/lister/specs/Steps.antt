@@ -4,7 +4,7 @@ use mathlib.Core.List.{List}
 use mathlib.Core.Path.{_≡_}
 use lib.ListN.{length}
 use Rattle.table.specs.declared.Layout.{Layout}
-use Rattle.table.specs.Sections.{rowsIn}
+use Rattle.table.specs.Table.{rowsIn}
 use Rattle.keys.specs.declared.Distinct.{Distinct}
 use Rattle.marks.specs.Marks.{Marked}
 use Rattle.keys.specs.Keys.{keysAt}

@@ -12,7 +12,7 @@ use Rattle.sections.specs.declared.Cursor.{Cursor}
 use Rattle.sections.specs.declared.Step.{Step}
 use Rattle.sections.specs.declared.Step.the-variants.{Next, Halt}
 use Rattle.sections.specs.Sections.{start, openAt}
-use Rattle.table.specs.Sections.{partAt}
+use Rattle.table.specs.Table.{partAt}
 use Rattle.sections.proofs.Opened.{opened, through}
 use Rattle.reader.specs.declared.Row.{Row}
 use Rattle.reader.specs.declared.Found.the-variants.{Here, Absent}

@@ -14,7 +14,7 @@ use Rattle.table.specs.declared.Layout.{Layout}
 use Rattle.sections.specs.declared.Step.the-variants.{Next}
 use Rattle.rows.specs.Rows.{endOf}
 use Rattle.sections.specs.Sections.{start, openAt}
-use Rattle.table.specs.Sections.{partAt, rowsIn}
+use Rattle.table.specs.Table.{partAt, rowsIn}
 use Rattle.sections.proofs.Opened.{behind, of-opened}
 use Rattle.table.proofs.Laid.{Laid, accepted}
 use Rattle.written.proofs.Tables.{understood}

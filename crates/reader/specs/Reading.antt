@@ -13,7 +13,7 @@ use Rattle.sections.specs.declared.Step.{Step}
 use Rattle.sections.specs.declared.Step.the-variants.{Next, Halt}
 use Rattle.rows.specs.Rows.{kindOf, argOf, endOf, fromOf}
 use Rattle.sections.specs.Sections.{andThen, start, openAt}
-use Rattle.table.specs.Sections.{partAt}
+use Rattle.table.specs.Table.{partAt}
 use Rattle.reader.specs.declared.Row.{Row}
 use Rattle.reader.specs.declared.Found.{Found}
 use Rattle.reader.specs.declared.Found.the-variants.{Here, Absent}

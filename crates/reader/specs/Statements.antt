@@ -5,7 +5,7 @@ use mathlib.Core.Path.{_≡_}
 use Rattle.table.specs.declared.Layout.{Layout}
 use Rattle.table.specs.declared.Checked.the-variants.{Sound}
 use Rattle.rows.specs.Rows.{endOf}
-use Rattle.table.specs.Sections.{checked, rowsIn}
+use Rattle.table.specs.Table.{checked, rowsIn}
 use Rattle.reader.specs.declared.Row.{Row}
 use Rattle.reader.specs.declared.Found.the-variants.{Here, Absent}
 use Rattle.reader.specs.Reading.{rowOf, rowAt, pastAt}

@@ -31,7 +31,7 @@ use Rattle.table.specs.declared.Layout.{Layout}
 use Rattle.sections.specs.declared.Refusal.{Refusal}
 use Rattle.table.specs.declared.Checked.the-variants.{Sound, Refused}
 use Rattle.entries.specs.First.{first}
-use Rattle.table.specs.Sections.{checked, rowsIn, readsIn, chosenIn}
+use Rattle.table.specs.Table.{checked, rowsIn, readsIn, chosenIn}
 use Rattle.written.specs.Tables.{formulaIn}
 use Rattle.written.proofs.Tables.{understood}
 use Rattle.cover.specs.declared.Covering.the-variants.{Missed, Doubled}

@@ -11,7 +11,7 @@ use Rattle.paper.proofs.Judgement as Paper
 use Rattle.table.specs.declared.Layout.{Layout}
 use Rattle.table.specs.declared.Checked.{Checked}
 use Rattle.table.specs.declared.Checked.the-variants.{Sound, Refused}
-use Rattle.table.specs.Sections.{checked}
+use Rattle.table.specs.Table.{checked}
 use Rattle.written.specs.Tables.{formulaIn}
 use Rattle.verdict.specs.Verdict.{acceptedWith, answerOf}
 use Rattle.verdict.proofs.Answers.{accepting}

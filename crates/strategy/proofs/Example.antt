@@ -2,7 +2,7 @@
 use mathlib.Core.Path.{_≡_, refl, ap}
 use Rattle.table.specs.declared.Layout.{Layout}
 use Rattle.rows.specs.Rows.{formOf}
-use Rattle.table.specs.Sections.{layout, rowsIn, readsIn, chosenIn}
+use Rattle.table.specs.Table.{layout, rowsIn, readsIn, chosenIn}
 use Rattle.rows.specs.Formula.{starAt, childrenAt, nodeAt, formulaAt}
 use Rattle.written.specs.Example.{wordsOfP}
 use Rattle.written.proofs.Example.{P-is-sound}

@@ -13,7 +13,7 @@ use Rattle.paper.proofs.Labels.{mem-has}
 use Rattle.table.specs.declared.Layout.{Layout}
 use Rattle.table.specs.declared.Checked.the-variants.{Sound}
 use Rattle.rows.specs.Rows.{kindOf, argOf, fromOf, Form, aFALSE, aStar, aCandidate, aConjunction, aDisjunction, anExists, anIF, noForm, formOf}
-use Rattle.table.specs.Sections.{checked, rowsIn, readsIn, chosenIn}
+use Rattle.table.specs.Table.{checked, rowsIn, readsIn, chosenIn}
 use Rattle.rows.specs.Formula.{formulaAt}
 use Rattle.rows.specs.Walk.{Walkable}
 use Rattle.written.specs.Written.{size, Ascend}

@@ -20,7 +20,7 @@ use Rattle.table.specs.declared.Checked.{Checked}
 use Rattle.table.specs.declared.Checked.the-variants.{Sound, Refused}
 use Rattle.entries.specs.First.{first}
 use Rattle.rows.specs.Rows.{keepsRules, isDeep}
-use Rattle.table.specs.Sections.{checked, chosenIn}
+use Rattle.table.specs.Table.{checked, chosenIn}
 use Rattle.rows.specs.Formula.{formulaAt}
 use Rattle.written.specs.Written.{Ascend}
 use Rattle.written.specs.Tables.{formulaIn}

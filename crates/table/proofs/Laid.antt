@@ -18,7 +18,7 @@ use Rattle.entries.specs.First.{first}
 use Rattle.rows.specs.Rows.{takenBefore, keepsRules, breaksRules, isDeep}
 use Rattle.entries.specs.Entries.{falls, beyond}
 use Rattle.sections.specs.Sections.{halt, unless, start, variablesAt, readsAt, rowsAt, strategyAt, endAt}
-use Rattle.table.specs.Sections.{partAt, readsOf, sections, layout, readsIn, rowsIn, answerOf, checked}
+use Rattle.table.specs.Table.{partAt, readsOf, sections, layout, readsIn, rowsIn, answerOf, checked}
 use Rattle.entries.proofs.First.{first-none}
 use Rattle.sections.proofs.Opened.{passed, unless-of, of-unless, through, Opened, behind, held, of-held}
 use Rattle.sections.proofs.ThirdSection.{all-keep, all-taken}

@@ -6,7 +6,7 @@ use Rattle.paper.specs.Outcome.{OneAnswer}
 use Rattle.paper.proofs.Outcome.{by-equation}
 use Rattle.sections.specs.declared.Cursor.{Cursor}
 use Rattle.sections.specs.declared.Step.the-variants.{Next}
-use Rattle.table.specs.Sections.{sections, answerOf, checked}
+use Rattle.table.specs.Table.{sections, answerOf, checked}
 
 pub check : (words : List ℕ) → OneAnswer (λ r. r ≡ checked words)
 check words = by-equation (checked words)

@@ -2,7 +2,7 @@
 // passed.
 ghost use mathlib.Core.Path.{_≡_};
 ghost use Prim.Native.Nat.{_≤_};
-ghost use Rattle.table.specs.Sections.{sections, answerOf, checked};
+ghost use Rattle.table.specs.Table.{sections, answerOf, checked};
 use sections::Cursor;
 use sections::Refusal;
 use sections::Step;

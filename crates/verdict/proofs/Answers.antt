@@ -7,7 +7,7 @@ use lib.Dec.{ltb}
 use borrow.Author.Tests.{ltb-false, lt-ltb, le-ltb}
 use Rattle.paper.specs.Judgement.{Judgement, accepted, refused, mostTransitions}
 use Rattle.table.specs.declared.Layout.{Layout}
-use Rattle.table.specs.Sections.{layout}
+use Rattle.table.specs.Table.{layout}
 use Rattle.verdict.specs.declared.Judged.{Judged}
 use Rattle.verdict.specs.declared.Judged.the-variants as answer
 use Rattle.verdict.specs.Verdict.{acceptedWith, refusedAt, answerOf, countedAs}

@@ -10,7 +10,7 @@ use Rattle.entries.specs.First.{first}
 use Rattle.rows.specs.Rows.{formOf, meets, takenBefore, falseRule, starRule, candidateRule, joinRule, boundRule, endsWithin, keepsRules, roundOf, depthOf, InRows, Nested}
 use Rattle.entries.specs.Entries.{ascend}
 use Rattle.sections.specs.Sections.{openAt, variablesAt, readsAt, rowsAt, strategyAt, endAt}
-use Rattle.table.specs.Sections.{sections, checked, layout, rowsIn}
+use Rattle.table.specs.Table.{sections, checked, layout, rowsIn}
 use Rattle.rows.specs.Formula.{starAt, childrenAt, nodeAt, formulaAt}
 use Rattle.rows.specs.Walk.{Walkable}
 use Rattle.written.specs.Written.{written, Within}

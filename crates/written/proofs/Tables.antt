@@ -9,7 +9,7 @@ use lib.ListN.{length, getD, length-append, length-map}
 use Rattle.paper.specs.Formula.{ℓ, Star, stars}
 use Rattle.table.specs.declared.Layout.{Layout}
 use Rattle.table.specs.declared.Checked.the-variants.{Sound}
-use Rattle.table.specs.Sections.{checked, readsIn, rowsIn}
+use Rattle.table.specs.Table.{checked, readsIn, rowsIn}
 use Rattle.written.specs.Written.{Table, readWords, readsFrom, takenReads, size, rowsFrom, section, written, Within}
 use Rattle.written.specs.Tables.{tableIn, layoutOf, SoundExactly, OneTable, WrittenOnce, Understood}
 use Rattle.entries.proofs.First.{of-neither}

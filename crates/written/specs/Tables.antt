@@ -10,7 +10,7 @@ use Rattle.paper.specs.Formula.{ℓ, Formula, labels, WellFormed}
 use Rattle.table.specs.declared.Layout.{Layout}
 use Rattle.table.specs.declared.Checked.the-variants.{Sound}
 use Rattle.rows.specs.Rows.{keepsRules, Nested}
-use Rattle.table.specs.Sections.{layout, namesIn, readsIn, rowsIn, chosenIn, checked}
+use Rattle.table.specs.Table.{layout, namesIn, readsIn, rowsIn, chosenIn, checked}
 use Rattle.rows.specs.Formula.{formulaAt}
 use Rattle.rows.specs.Walk.{Shaped}
 use Rattle.written.specs.Written.{Table, written, Within, takenReads, size, depth, labelsOn}

@@ -3,7 +3,7 @@ use native.Mathlib.Omega.{arith}
 use mathlib.Core.Path.{_≡_, sym, _∙_}
 use denote.Ref.{now}
 use Rattle.table.specs.declared.Checked.the-variants.{Sound}
-use Rattle.table.specs.Sections.{checked}
+use Rattle.table.specs.Table.{checked}
 use Rattle.strategy.proofs.Held.{reached, parts-lent}
 use Rattle.strategy.proofs.Answers.{refused-whole, judged-lent}
 use borrow.Author.Needs.{needs}

@@ -1,6 +1,6 @@
 -- The answer is that of the sections, and the counts that passed are small.
 use mathlib.Core.Path.{sym, ap, _∙_}
-use Rattle.table.specs.Sections.{answerOf, checked}
+use Rattle.table.specs.Table.{answerOf, checked}
 use Rattle.table.proofs.Laid.{counts-small}
 use borrow.Author.Needs.{needs}
 use Rattle.table.proofs.check.Statement.{statement}

@@ -7,7 +7,7 @@ use denote.Ref.{now}
 use Rattle.sections.specs.declared.Cursor.{Cursor}
 use Rattle.sections.specs.declared.Step.the-variants.{Next}
 use Rattle.sections.specs.Sections.{start, variablesAt, readsAt, rowsAt, strategyAt}
-use Rattle.table.specs.Sections.{partAt, readsOf, sections}
+use Rattle.table.specs.Table.{partAt, readsOf, sections}
 use Rattle.rows.proofs.Rules.{rest}
 use Rattle.table.proofs.Laid.{NamesPassed, ReadsPassed, RowsPassed, InReach, names-of, reads-of, rows-of, chosen-of, names-reach, reads-reach, reads-between, between-reads, length-between, rows-reach, chosen-reach}
 use borrow.Author.Needs.{needs}

@@ -7,7 +7,7 @@ use denote.Ref.{now}
 use Rattle.sections.specs.declared.Cursor.{Cursor}
 use Rattle.sections.specs.declared.Step.the-variants.{Next}
 use Rattle.sections.specs.Sections.{start, openAt}
-use Rattle.table.specs.Sections.{partAt}
+use Rattle.table.specs.Table.{partAt}
 use Rattle.rows.proofs.Rules.{rest}
 use Rattle.reader.specs.Reading.{behindRows}
 use Rattle.reader.proofs.Behind.{Passed, passes}
