@@ -8,7 +8,7 @@ use mathlib.Core.Path.{_≡_, refl, sym, ap, _∙_}
 use mathlib.Core.List.{List, [], _∷_}
 use lib.ListN.{length, getD, set, length-set}
 use lib.Seq.{paste, paste-zero, paste-suc, take-all}
-use Rattle.ordering.specs.Prior.{written}
+use Rattle.ordering.specs.Prior.{inFront}
 use Rattle.bytes.specs.Bytes.{wordsOf, WordsIn}
 
 pub words-length : (bytes : List ℕ) → length (wordsOf bytes) ≡ length bytes / 2
@@ -52,7 +52,7 @@ module _ (bytes lent : List ℕ) (room : length bytes / 2 ≤ length lent) where
         }
 
     pub putting-ends : length bytes / 2 ≤ i → WordsIn bytes lent words (length bytes / 2)
-    unfolding written
+    unfolding inFront
     putting-ends h =
         let there = words-length bytes in
         let few = p .so-far in

@@ -5,13 +5,13 @@ use mathlib.Core.List.{List}
 use lib.ListN.{length}
 use Rattle.paper.specs.Outcome.{OneOutcome}
 use Rattle.paper.proofs.Outcome.{by-equation}
-use Rattle.ordering.specs.Prior.{written}
+use Rattle.ordering.specs.Prior.{inFront}
 use Rattle.verdict.specs.declared.Judged.{Judged}
 use Rattle.bytes.specs.Bytes.{wordsOf, WordsIn, judgedBytes, wordsLeft, orderLeftBy, JudgedBytes}
 
 pub fill-words : (bytes lent : List ℕ) → OneOutcome (λ left r. WordsIn bytes lent left r)
 fill-words bytes lent left other r s p q =
-    (by-equation (length (wordsOf bytes)) r s (p .many) (q .many), by-equation (written (wordsOf bytes) lent) left other (p .stand) (q .stand))
+    (by-equation (length (wordsOf bytes)) r s (p .many) (q .many), by-equation (inFront (wordsOf bytes) lent) left other (p .stand) (q .stand))
 
 pub judge-bytes : (bytes words₀ order₀ words words′ order order′ : List ℕ) (r s : Judged) → JudgedBytes bytes words₀ words order₀ order r
     → JudgedBytes bytes words₀ words′ order₀ order′ s → (r ≡ s) × (words ≡ words′) × (order ≡ order′)

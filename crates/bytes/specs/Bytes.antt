@@ -6,7 +6,7 @@ use mathlib.Core.List.{List, [], _∷_}
 use mathlib.Core.Path.{_≡_}
 use lib.Dec.{eqb}
 use lib.ListN.{length, take}
-use Rattle.ordering.specs.Prior.{written}
+use Rattle.ordering.specs.Prior.{inFront}
 use Rattle.verdict.specs.declared.Accepted.{Accepted}
 use Rattle.verdict.specs.declared.Judged.{Judged}
 use Rattle.verdict.specs.declared.Judged.the-variants as judged
@@ -23,7 +23,7 @@ wordsOf (low ∷ high ∷ bytes) = (low + 256 * high) ∷ wordsOf bytes
 pub record WordsIn (bytes lent left : List ℕ) (count : ℕ) : Type 0 where
   pub many : count ≡ length (wordsOf bytes)
   pub half : count ≡ length bytes / 2
-  pub stand : left ≡ written (wordsOf bytes) lent
+  pub stand : left ≡ inFront (wordsOf bytes) lent
 
 abbrev pub areOdd : List ℕ → Bool
 areOdd bytes = eqb (length bytes % 2) 1
@@ -34,7 +34,7 @@ judgedBytes bytes = cond (areOdd bytes) (refusedAt 17 (length bytes / 2)) (judge
 
 -- what is left in words lent for those of the bytes, and in words lent for the order; 17 leaves both as they were
 unfoldable pub wordsLeft : List ℕ → List ℕ → List ℕ
-wordsLeft bytes lent = cond (areOdd bytes) lent (written (wordsOf bytes) lent)
+wordsLeft bytes lent = cond (areOdd bytes) lent (inFront (wordsOf bytes) lent)
 
 unfoldable pub orderLeftBy : List ℕ → List ℕ → List ℕ
 orderLeftBy bytes lent = cond (areOdd bytes) lent (orderLeft (wordsOf bytes) lent)

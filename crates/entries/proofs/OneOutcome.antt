@@ -1,5 +1,5 @@
 -- For each public function, any two outcomes that its promise allows are equal.
-use Prim.Native.Nat.{ℕ}
+use Prim.Native.Nat.{ℕ, min}
 use mathlib.Core.Bool.{_||_}
 use mathlib.Core.Path.{_≡_}
 use mathlib.Core.List.{List}
@@ -10,6 +10,9 @@ use Rattle.entries.specs.Entries.{falls, ascend, beyond}
 
 pub wide : (x : ℕ) → OneAnswer (λ r. r ≡ x)
 wide = by-equation
+
+pub least : (a b : ℕ) → OneAnswer (λ r. r ≡ min a b)
+least a b = by-equation (min a b)
 
 module _ (words : List ℕ) (n : ℕ) where
   pub first-fall : OneAnswer (λ r. r ≡ first (falls words) n)

@@ -1,7 +1,7 @@
 // Entries, one word each: the lowest that is not above the one before, or that is beyond a limit (refusals 4, 5 and 9, and a
 // star's reads in 6).
 ghost use mathlib.Core.Path.{_≡_};
-ghost use Prim.Native.Nat.{_≤_, _<_};
+ghost use Prim.Native.Nat.{_≤_, _<_, min};
 ghost use mathlib.Core.Bool.{_||_};
 ghost use lib.ListN.{length};
 ghost use Rattle.entries.specs.First.{first};
@@ -14,6 +14,13 @@ pub fn wide(x: u16) -> usize
     ensures { λ r. ⌜ r ≡ x ⌝ }
 {
     x as usize
+}
+
+// The lower of two numbers.
+pub fn least(a: usize, b: usize) -> usize
+    ensures { λ r. ⌜ r ≡ min a b ⌝ }
+{
+    if a < b { a } else { b }
 }
 
 // The lowest of n words that is not above the one before, or n.

@@ -1,5 +1,6 @@
 pub mod Tests
 pub mod Kept
+pub mod Left
 pub mod Guards
 pub mod GoesOn
 pub mod Finding

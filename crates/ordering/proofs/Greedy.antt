@@ -4,59 +4,23 @@ use Prim.Native.Nat.{ℕ, zero, suc, _+_, _-_, _<_, _≤_}
 use native.Mathlib.Omega.{arith}
 use native.Mathlib.Numerals.{add-one}
 use mathlib.Core.Path.{_≡_, refl, sym, subst, ap, _∙_}
-use mathlib.Core.Bool.{Bool, true, false, _&&_, not}
+use mathlib.Core.Bool.{true, false, not}
 use mathlib.Core.List.{List, [], _∷_, _++_, append-nil}
 use lib.Dec.{eqb}
 use lib.ListN.{length, getD, set, take, drop, replicate, length-set, length-map, length-replicate, getD-replicate, take-append-drop, List·getD-eq-default}
-use lib.Seq.{getD-set-same, getD-set-other, take-suc-set, append-snoc, drop-set-lt, drop-drop, length-take-le}
+use lib.Seq.{take-suc-set, append-snoc, drop-set-lt, drop-drop, length-take-le}
 use borrow.Author.Tests.{eq-eqb, ne-eqb, not-true}
 use Rattle.paper.specs.Lists.{those}
 use Rattle.paper.specs.Order.{isReady, greedyBy}
-use Rattle.paper.proofs.Bools.{and-left, and-right}
-use Rattle.paper.proofs.Lists.{those-le, those-lt, those-all, to-those}
+use Rattle.paper.proofs.Bools.{and-right}
+use Rattle.paper.proofs.Lists.{those-all}
 use Rattle.net.specs.Prior.{upTo}
-use Rattle.ordering.specs.Prior.{labelled, written}
+use Rattle.ordering.specs.Prior.{labelled, inFront}
 use Rattle.fingers.specs.Graph.{Graph, free, leftOf, slots, Started}
 use Rattle.ordering.specs.Placing.{State, Lowest, rest, Placing}
 use Rattle.fingers.proofs.Tests.{by-eq, by-lt, never}
-use Rattle.fingers.proofs.Kept.{in-upTo, length-upTo, those-those, those-same, some-kept, none-some, none-kept, first-kept}
-
-pub left-few : (n : ℕ) (mark : List ℕ) → 0 + length (leftOf n mark) ≤ n
-unfolding leftOf
-left-few n mark = let z = those-le (free mark) (upTo n) in omega (arith, length-upTo n)
-
--- a mark a is put at k, which was new: the new numbers are those that were, without it
-module _ (a : ℕ) (some : a ≡ 0 → ⊥) (k : ℕ) (mark : List ℕ) (long : k < length mark) where
-  pub freed : (i : ℕ) → free (set mark k a) i ≡ (free mark i && not (eqb i k))
-  unfolding free
-  freed i =
-      by-eq i k
-      (λ e. ap (λ z. eqb z 0) (ap (λ z. getD (set mark k a) z 0) e ∙ getD-set-same mark k a 0 long) ∙ ne-eqb a 0 some
-      ∙ sym (and-no (eqb (getD mark i 0) 0) (eqb i k) (eq-eqb i k e)))
-      (λ d. ap (λ z. eqb z 0) (getD-set-other mark k i a 0 d) ∙ sym (and-yes (eqb (getD mark i 0) 0) (eqb i k) (ne-eqb i k d)))
-    where
-      and-no : (a b : Bool) → b ≡ true → (a && not b) ≡ false
-      and-no true b e = rw e
-      and-no false b e = refl
-
-      and-yes : (a b : Bool) → b ≡ false → (a && not b) ≡ a
-      and-yes true b e = rw e
-      and-yes false b e = refl
-
-  pub was-free : (i : ℕ) → free (set mark k a) i ≡ true → free mark i ≡ true
-  was-free i e = and-left _ (not (eqb i k)) (sym (freed i) ∙ e)
-
-  pub left-after : (n : ℕ) → those (λ i. not (eqb i k)) (leftOf n mark) ≡ leftOf n (set mark k a)
-  unfolding leftOf
-  left-after n =
-      those-those (λ i. not (eqb i k)) (free mark) (upTo n)
-      ∙ those-same (λ i. free mark i && not (eqb i k)) (free (set mark k a)) (upTo n) (λ i t. sym (freed i))
-
-  pub left-shorter : (n : ℕ) → k < n → free mark k ≡ true → length (leftOf n (set mark k a)) < length (leftOf n mark)
-  unfolding leftOf
-  left-shorter n h e =
-      subst (λ l. length l < length (leftOf n mark)) (left-after n)
-      (those-lt (λ i. not (eqb i k)) (leftOf n mark) k (to-those (free mark) (in-upTo n k h) e) (ap not (eq-eqb k k refl)))
+use Rattle.fingers.proofs.Kept.{length-upTo, some-kept, none-some, none-kept, first-kept}
+use Rattle.fingers.proofs.Left.{freed, was-free, left-after, left-shorter}
 
 module _ (g : Graph) where
   -- a step of the order, and its end
@@ -172,8 +136,8 @@ module _ (g : Graph) where
   -- nothing is ready
   pub placing-done : (chosen : List ℕ) (count k : ℕ) (placed finger wait low out₀ out : List ℕ) → State g k placed finger wait low
       → Placing g chosen count placed out₀ out → g .size ≤ k
-      → (count ≡ length (rest g (g .size) (upTo (g .size)))) × (out ≡ written (labelled chosen (rest g (g .size) (upTo (g .size)))) out₀)
-  unfolding written
+      → (count ≡ length (rest g (g .size) (upTo (g .size)))) × (out ≡ inFront (labelled chosen (rest g (g .size) (upTo (g .size)))) out₀)
+  unfolding inFront
   placing-done chosen count k placed finger wait low out₀ out s p h = (
     sym (sym (length-map (rest g (g .size) (upTo (g .size))) (λ i. getD chosen i 0)) ∙ ap length all ∙ long),
     sym (take-append-drop count out) ∙ ap (λ l. take count out ++ l) (p .behind) ∙ ap (λ l. take count out ++ drop l out₀) (sym long)

@@ -10,9 +10,10 @@ use lib.Seq.{getD-set-same, getD-set-other}
 use borrow.Author.Count.{below-more}
 use borrow.Author.Tests.{ltb-true}
 use Rattle.paper.proofs.Bools.{and-left, and-right}
-use Rattle.fingers.specs.Graph.{Graph, Next, free}
+use Rattle.fingers.specs.Graph.{Graph, Next, free, outside}
 use Rattle.ordering.specs.Placing.{Blocked, State, Lowered, Visited}
 use Rattle.fingers.proofs.Tests.{by, never, at-set}
+use Rattle.fingers.proofs.Seeking.{outside-free, next-alike}
 
 module _ (g : Graph) (k : ℕ) (placed finger wait low : List ℕ) (s : State g k placed finger wait low) where
   -- one number more is blocked or placed
@@ -59,6 +60,10 @@ module _ (g : Graph) (k : ℕ) (placed finger wait low : List ℕ) (s : State g 
       in-wait : k < length wait
       in-wait = omega (arith, s .small, s .waits)
 
+  -- where no path is, a search finds what is not placed
+  next-unplaced : (f l : ℕ) → Next g (outside placed 0) k (getD finger k 0) f l → Next g (free placed) k (getD finger k 0) f l
+  next-unplaced f l x = next-alike g (outside placed 0) (free placed) k (getD finger k 0) f l (outside-free placed) x
+
   -- the ends of a visit
   module _ (h : k < g .size) (r : Bool) where
     pub visit-placed : r ≡ false → free placed k ≡ false → Visited g k placed finger wait low r
@@ -73,26 +78,29 @@ module _ (g : Graph) (k : ℕ) (placed finger wait low : List ℕ) (s : State g 
         unplaced : free placed w ≡ true
         unplaced = and-right (ltb w (g .size)) _ q
 
-    pub visit-ready : r ≡ true → free placed k ≡ true → (f l : ℕ) → Next g (free placed) k (getD finger k 0) f l → g .size ≤ l
+    pub visit-ready : r ≡ true → free placed k ≡ true → (f l : ℕ) → Next g (outside placed 0) k (getD finger k 0) f l → g .size ≤ l
         → Visited g k placed (set finger k f) (set wait k l) low r
     visit-ready e p f l x out = record {
-      state = moved h f l x low refl (λ i. omega arith) (λ hl. absurd (omega arith));
+      state = moved h f l (next-unplaced f l x) low refl (λ i. omega arith) (λ hl. absurd (omega arith));
       passed = λ q. never _ e q;
       ready = λ _.
           let now = getD-set-same finger k f 0 (omega (arith, s .small, s .fingers)) in
           (p, subst (λ z. (i : ℕ) → i < g .size → g .passed k z i ≡ true) (sym now) (x .out out));
     }
 
-    pub visit-blocked : r ≡ false → (f l : ℕ) → Next g (free placed) k (getD finger k 0) f l → l < g .size → (low′ : List ℕ) → Lowered low l k low′
+    pub visit-blocked : r ≡ false → (f l : ℕ) → Next g (outside placed 0) k (getD finger k 0) f l → l < g .size → (low′ : List ℕ) → Lowered low l k low′
         → Visited g k placed (set finger k f) (set wait k l) low′ r
     visit-blocked e f l x hl low′ w = record {
       state = s′;
-      passed = λ _. more (λ _. s′ .awaits k h (subst (λ z. z < g .size) (sym now) hl) (subst (λ z. free placed z ≡ true) (sym now) (x .hit hl .0)));
+      passed = λ _. more (λ _. s′ .awaits k h (subst (λ z. z < g .size) (sym now) hl) (subst (λ z. free placed z ≡ true) (sym now) waits));
       ready = λ q. never _ q e;
     }
       where
+        waits : free placed l ≡ true
+        waits = next-unplaced f l x .hit hl .0
+
         s′ : State g k placed (set finger k f) (set wait k l) low′
-        s′ = moved h f l x low′ (w .size) (w .all) (λ _. w .there)
+        s′ = moved h f l (next-unplaced f l x) low′ (w .size) (w .all) (λ _. w .there)
 
         now : getD (set wait k l) k 0 ≡ l
         now = getD-set-same wait k l 0 (omega (arith, s .small, s .waits))

@@ -1,3 +1,2 @@
 pub mod Prior
 pub mod Placing
-pub mod Path

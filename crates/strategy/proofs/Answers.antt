@@ -41,7 +41,8 @@ use Rattle.cover.specs.Words.{coveringOf, judgementOf}
 use Rattle.keys.specs.Keys.{total, keysAt}
 use Rattle.cover.proofs.CoveringSays.{covering-says, gives-covered}
 use Rattle.keys.proofs.KeyNumbers.{keys-past-limit, keys-number}
-use Rattle.ordering.specs.Prior.{lowestCyclic, written, Filled}
+use Rattle.cycles.specs.Cyclic.{lowestCyclic}
+use Rattle.ordering.specs.Prior.{inFront, Filled}
 use Rattle.verdict.specs.declared.Judged.{Judged}
 use Rattle.verdict.specs.declared.Judged.the-variants as answer
 use Rattle.verdict.specs.Verdict.{acceptedWith, refusedAt, answerOf, isStranger, countedAs}
@@ -100,7 +101,7 @@ module _ (rows reads chosen : List ℕ) where
   reported = wordsOfOrder (formulaOf rows reads) (proposalOf chosen)
 
   abbrev leftIf : List ℕ → Bool → List ℕ
-  leftIf lent late = cond late (written reported lent) lent
+  leftIf lent late = cond late (inFront reported lent) lent
 
 module _ {rows reads chosen : List ℕ} {l : Layout} {r : Judged} where
   -- refused before the order is worked out
@@ -122,7 +123,7 @@ module _ {rows reads chosen : List ℕ} {l : Layout} {r : Judged} where
   -- an acceptance leaves the whole order in front
   fills : {#N : ℕ} {lent left : List ℕ} {v n s t : ℕ} → Parts rows reads chosen (l .variables) #N → JudgedParts rows reads chosen l lent left r
       → judgementBy rows reads chosen (l .variables) ≡ accepted v n s t → take (length chosen) left ≡ reported rows reads chosen
-  unfolding written
+  unfolding inFront
   fills {lent = lent} p j a =
       let f = formulaOf rows reads in
       let A = proposalOf chosen in

@@ -24,7 +24,8 @@ use Rattle.rows.specs.Rows.{kindOf}
 use Rattle.rows.proofs.Meets.{lt-or-le}
 use Rattle.net.specs.Net.{Chosen, Net}
 use Rattle.net.proofs.PriorIsBefore.{order-by-rows, cycle-by-rows}
-use Rattle.ordering.specs.Prior.{ordered, isCyclic, lowestCyclic, labelled, written, Filled}
+use Rattle.cycles.specs.Cyclic.{isCyclic, lowestCyclic}
+use Rattle.ordering.specs.Prior.{ordered, labelled, inFront, Filled}
 use Rattle.fingers.specs.Ready.{Ready}
 use Rattle.strategy.specs.Judge.{Parts, Covered, formulaOf, proposalOf, wordsOfOrder}
 use Rattle.strategy.proofs.Held.{parts-write, rows-are, ascend-all, chosen-rows, ready}
@@ -161,5 +162,5 @@ module _ {rows reads chosen : List ℕ} {#V #N : ℕ} (c : Covered rows reads ch
   pub order-passes : length chosen ≤ length (ordered rows reads chosen) → judgeOrder #V f A ≡ judgeCount #V f A
   order-passes h = let e = all-placed f A (omega (arith, many-placed, length-map chosen ℓ)) in rw e
 
-  pub order-left : {lent left : List ℕ} {count : ℕ} → Filled rows reads chosen lent left count → left ≡ written (wordsOfOrder f A) lent
-  order-left {lent} d = d .filled ∙ ap (λ o. written o lent) (sym order-is)
+  pub order-left : {lent left : List ℕ} {count : ℕ} → Filled rows reads chosen lent left count → left ≡ inFront (wordsOfOrder f A) lent
+  order-left {lent} d = d .filled ∙ ap (λ o. inFront o lent) (sym order-is)

@@ -24,7 +24,7 @@ use Rattle.table.specs.Table.{checked, chosenIn}
 use Rattle.rows.specs.Formula.{formulaAt}
 use Rattle.written.specs.Written.{Ascend}
 use Rattle.written.specs.Tables.{formulaIn}
-use Rattle.ordering.specs.Prior.{written}
+use Rattle.ordering.specs.Prior.{inFront}
 use Rattle.verdict.specs.declared.Judged.{Judged}
 use Rattle.verdict.specs.declared.Judged.the-variants as answer
 use Rattle.verdict.specs.Verdict.{acceptedWith, answerOf}
@@ -55,7 +55,7 @@ comesLate (refused number place) = ltb 12 number
 
 -- what a judgement leaves in words lent for the order: the order o in front of what was there, or what was there
 abbrev pub leftBy : Judgement → List ℕ → List ℕ → List ℕ
-leftBy j o lent = cond (comesLate j) (written o lent) lent
+leftBy j o lent = cond (comesLate j) (inFront o lent) lent
 
 abbrev pub leftAs : List ℕ → Checked → List ℕ → List ℕ
 leftAs words (Refused r) lent = lent
@@ -115,7 +115,7 @@ module _ (rows reads chosen : List ℕ) (l : Layout) (lent left : List ℕ) (r :
   -- the answer of the last two checks, and of all five; and what is left in the words lent for the order
   pub record OrderedParts : Type 0 where
     pub answered : r ≡ answerOf l (judgeOrder (l .variables) (formulaOf rows reads) (proposalOf chosen))
-    pub left-so : left ≡ written (wordsOfOrder (formulaOf rows reads) (proposalOf chosen)) lent
+    pub left-so : left ≡ inFront (wordsOfOrder (formulaOf rows reads) (proposalOf chosen)) lent
 
   pub record JudgedParts : Type 0 where
     pub answered : r ≡ answerOf l (judge (l .variables) (formulaOf rows reads) (proposalOf chosen))
