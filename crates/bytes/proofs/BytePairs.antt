@@ -38,7 +38,8 @@ module _ (bytes lent : List ℕ) (room : length bytes / 2 ≤ length lent) where
   putting-begins = record { so-far = omega arith; as-long = refl; stand = paste-zero lent 0 (wordsOf bytes) }
 
   module _ {words : List ℕ} {i : ℕ} (p : Putting bytes lent words i) where
-    pub putting-goes-on : {w : ℕ} → i < length bytes / 2 → w ≡ getD bytes (2 * i) 0 + 256 * getD bytes (2 * i + 1) 0 → Putting bytes lent (set words i w) (i + 1)
+    pub putting-goes-on : {w : ℕ} → i < length bytes / 2 → w ≡ getD bytes (2 * i) 0 + 256 * getD bytes (2 * i + 1) 0
+        → Putting bytes lent (set words i w) (i + 1)
     putting-goes-on {w} h e =
         let there = words-length bytes in
         let front = paste lent 0 (wordsOf bytes) i in

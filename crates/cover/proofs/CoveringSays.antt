@@ -32,7 +32,8 @@ use Rattle.rows.proofs.Walks.{value-read}
 use Rattle.cover.specs.declared.Words.{Words}
 use Rattle.cover.specs.declared.Covering.the-variants.{Missed, Doubled, Covered}
 use Rattle.marks.specs.Marks.{isMarked, Marked}
-use Rattle.cover.specs.Words.{leafWords, unitWords, bothWords, joinWords, maskOf, wordsReading, wordsAt, bitAt, isMissed, isDoubled, firstOf, coveringOf, coveringBy, judgementOf}
+use Rattle.cover.specs.Words.{leafWords, unitWords, bothWords, joinWords, maskOf, wordsReading, wordsAt}
+use Rattle.cover.specs.Words.{bitAt, isMissed, isDoubled, firstOf, coveringOf, coveringBy, judgementOf}
 use Rattle.cover.proofs.Leaves.{leaves-labelled}
 use Rattle.cover.proofs.Bits.{and-bit, or-bit, zero-bit, all-bit, power-bit}
 

@@ -21,7 +21,9 @@ use Rattle.fingers.proofs.Seeking.{own-in, own-star, from-in, all-frozen}
 -- a number is before itself where its own variable is frozen at it
 prior-itself : (rows reads chosen : List ℕ) (j : ℕ) → prior rows reads chosen j j ≡ isFrozen rows reads (getD chosen j 0) (variableOf rows chosen j)
 unfolding prior together
-prior-itself rows reads chosen j = rw (eq-eqb (getD chosen j 0) (getD chosen j 0) refl) (and-true (isFrozen rows reads (getD chosen j 0) (variableOf rows chosen j)))
+prior-itself rows reads chosen j =
+    let l = getD chosen j 0 in
+    rw (eq-eqb l l refl) (and-true (isFrozen rows reads l (variableOf rows chosen j)))
 
 -- the star around a star: a place, before all that it reads
 module _ (rows reads chosen net : List ℕ) (#N : ℕ) (ready : Ready rows reads chosen net #N) (s : ℕ)

@@ -120,7 +120,8 @@ module _ (rows reads chosen : List ℕ) where
       (λ e. joins s (fromOf rows s) (length chosen) i h (pick (or-cases (starReads rows reads s (variableOf rows chosen i)) _ e)
       (λ q. readLater (sym (star-reads rows reads s (variableOf rows chosen i)) ∙ q)) readAround))
     where
-      out : Part s (fromOf rows s) (length chosen) i → (starReads rows reads s (variableOf rows chosen i) || around rows reads s (variableOf rows chosen i)) ≡ true
+      out : Part s (fromOf rows s) (length chosen) i
+          → (starReads rows reads s (variableOf rows chosen i) || around rows reads s (variableOf rows chosen i)) ≡ true
       out (chained a b c) = absurd (omega arith)
       out (readLater a) = or-left (starReads rows reads s (variableOf rows chosen i)) _ (star-reads rows reads s (variableOf rows chosen i) ∙ a)
       out (readAround a) = or-right (starReads rows reads s (variableOf rows chosen i)) _ a

@@ -148,7 +148,8 @@ module _ (rows reads chosen : List ℕ) (#N : ℕ) where
     from-in = let z = ready .read own own-in own-star in omega (arith, ready .few)
 
     -- what lies from it on is what is frozen at j
-    pub all-frozen : (i : ℕ) → pending rows reads chosen own (fromOf rows own) (length chosen) i ≡ isFrozen rows reads (getD chosen j 0) (variableOf rows chosen i)
+    pub all-frozen : (i : ℕ)
+        → pending rows reads chosen own (fromOf rows own) (length chosen) i ≡ isFrozen rows reads (getD chosen j 0) (variableOf rows chosen i)
     all-frozen i =
         opened rows reads chosen own i (omega arith)
         ∙ sym (frozen-is rows reads #N (ready .choice .tree) (ready .guarded) (getD chosen j 0) (variableOf rows chosen i) (let z = own-in in omega arith)

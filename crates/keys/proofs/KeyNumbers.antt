@@ -13,7 +13,8 @@ use borrow.Author.Tests.{lt-ltb}
 use Rattle.paper.specs.declared.Label.{Label}
 use Rattle.paper.specs.Formula.{ℓ, has}
 use Rattle.paper.specs.Structure.Reading.{Reading}
-use Rattle.paper.specs.Structure.KeyCount.{KeyCount, number, leafKeys as leafCount, unitKeys as unitCount, joinKeys as joinCounts, keyReading, keyCountOf, numberOf}
+use Rattle.paper.specs.Structure.KeyCount.{KeyCount, number, leafKeys as leafCount, unitKeys as unitCount}
+use Rattle.paper.specs.Structure.KeyCount.{joinKeys as joinCounts, keyReading, keyCountOf, numberOf}
 use Rattle.paper.proofs.Readings.{carried, carried-everywhere}
 use Rattle.paper.proofs.Bools.{pick}
 use Rattle.rows.specs.Formula.{formulaAt}

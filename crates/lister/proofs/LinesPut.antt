@@ -24,7 +24,8 @@ use Rattle.transitions.specs.Kept.{Keepable, MarkedKept}
 use Rattle.transitions.specs.Assigned.{keptOf, Fillable}
 use Rattle.answers.specs.Requests.{keyOf, marksOf, assignedOf, AcceptedAs}
 use Rattle.answers.proofs.Accepted.{is-understood, few-transitions}
-use Rattle.answers.proofs.Keeping.{rows-lent, chosen-lent, rows-fit, keepable, bytes-left, front-is, front-there, front-length, fillable, assigned-there, assigned-front, amounts}
+use Rattle.answers.proofs.Keeping.{rows-lent, chosen-lent, rows-fit, keepable, bytes-left, front-is}
+use Rattle.answers.proofs.Keeping.{front-there, front-length, fillable, assigned-there, assigned-front, amounts}
 use Rattle.marks.specs.Marks.{positionsFrom, positions}
 use Rattle.listing.specs.Text.{transitionLine}
 use Rattle.listing.specs.Placed.{Put}

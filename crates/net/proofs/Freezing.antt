@@ -13,7 +13,8 @@ use borrow.Author.Tests.{lt-ltb, le-ltb}
 use Rattle.paper.specs.declared.Label.{Label}
 use Rattle.paper.specs.declared.Variable.{Variable}
 use Rattle.paper.specs.Lists.{anyOf}
-use Rattle.paper.specs.Formula.{ℓ, 𝓋, alike, holds, labels, labelsOf, Star, Formula, Formulas, FALSE, test, candidate, conjunction, disjunction, exists, IF, only, _⨾_}
+use Rattle.paper.specs.Formula.{ℓ, 𝓋, alike, holds, labels, labelsOf, Star, Formula, Formulas}
+use Rattle.paper.specs.Formula.{FALSE, test, candidate, conjunction, disjunction, exists, IF, only, _⨾_}
 use Rattle.paper.specs.Frozen.{Site, site, sitesUnder, sitesOf, readBy, frozen}
 use Rattle.paper.proofs.Bools.{pick}
 use Rattle.paper.proofs.Lists.{any-append}

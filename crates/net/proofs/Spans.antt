@@ -12,7 +12,8 @@ use lib.ListN.{length, length-append}
 use lib.Dec.{eqb}
 use borrow.Author.Tests.{eqb-true, eqb-false}
 use Rattle.paper.specs.declared.Label.{Label}
-use Rattle.paper.specs.Formula.{ℓ, 𝓋, same, has, Candidate, labels, labelsOf, candidates, candidatesOf, Rising, Star, Formula, Formulas, FALSE, test, candidate, conjunction, disjunction, exists, IF, only, _⨾_}
+use Rattle.paper.specs.Formula.{ℓ, 𝓋, same, has, Candidate, labels, labelsOf, candidates, candidatesOf, Rising, Star}
+use Rattle.paper.specs.Formula.{Formula, Formulas, FALSE, test, candidate, conjunction, disjunction, exists, IF, only, _⨾_}
 use Rattle.paper.proofs.Bools.{or-cases, pick}
 use Rattle.rows.specs.Rows.{kindOf, argOf, endOf}
 use Rattle.written.specs.Written.{size, labelsOn}

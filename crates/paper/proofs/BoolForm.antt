@@ -5,9 +5,11 @@ use native.Mathlib.Omega.{arith}
 use mathlib.Core.Path.{_≡_, refl, sym, _∙_}
 use mathlib.Core.Bool.{Bool, true, false, _||_, false≢true}
 use mathlib.Core.Logic.{_⊎_, inl, inr}
-use mathlib.Core.List.{List, [], _∷_, _++_, List·Memᴰ, List·Memᴰ·head, List·Memᴰ·append-cases, List·Memᴰ·eq-of-singleton, Memᴰ·append-left, Memᴰ·append-right, Sublistᴰ}
+use mathlib.Core.List.{List, [], _∷_, _++_, List·Memᴰ, List·Memᴰ·head}
+use mathlib.Core.List.{List·Memᴰ·append-cases, List·Memᴰ·eq-of-singleton, Memᴰ·append-left, Memᴰ·append-right, Sublistᴰ}
 use Rattle.paper.specs.Lists.{pairs}
-use Rattle.paper.specs.Formula.{Label, has, labels, labelsOf, Rising, Formula, Formulas, FALSE, test, candidate, conjunction, disjunction, exists, IF, only, _⨾_}
+use Rattle.paper.specs.Formula.{Label, has, labels, labelsOf, Rising, Formula, Formulas, FALSE}
+use Rattle.paper.specs.Formula.{test, candidate, conjunction, disjunction, exists, IF, only, _⨾_}
 use Rattle.paper.specs.Branch.{branches, ofEach, ofAny}
 use Rattle.paper.specs.BoolForm.{models, modelsEach, modelsAny, Part}
 use Rattle.paper.specs.Statements.{BranchesAreMinimalModels}

@@ -6,19 +6,22 @@ use Prim.Native.Nat.{ℕ, zero, suc, _+_}
 use native.Mathlib.Omega.{arith}
 use native.Mathlib.Nat.{zero-add}
 use mathlib.Core.Path.{_≡_, refl, sym, ap, _∙_}
-use mathlib.Core.Bool.{Bool, true, false, not, cond, _&&_, _||_, and-false, or-false, or-true, or-self, or-self-left, or-assoc, or-comm, and-or-distrib-left, and-or-distrib-right, or-and-distrib-left, or-and-distrib-right}
+use mathlib.Core.Bool.{Bool, true, false, not, cond, _&&_, _||_, and-false, or-false}
+use mathlib.Core.Bool.{or-true, or-self, or-self-left, or-assoc, or-comm, and-or-distrib-left, and-or-distrib-right, or-and-distrib-left, or-and-distrib-right}
 use mathlib.Core.List.{List, [], _∷_, _++_, map, append-nil, Memᴰ·map, Sublistᴰ}
 use lib.Dec.{eqb, ltb}
 use borrow.Author.Tests.{ne-eqb, lt-ltb, not-false}
 use Rattle.paper.specs.Lists.{anyOf, howMany, pairs}
-use Rattle.paper.specs.Formula.{Label, Variable, Candidate, same, alike, has, labels, labelsOf, candidates, candidatesOf, assigns, Rising, WellFormed, Formula, Formulas, FALSE, test, candidate, conjunction, disjunction, exists, IF, only, _⨾_}
+use Rattle.paper.specs.Formula.{Label, Variable, Candidate, same, alike, has, labels, labelsOf, candidates, candidatesOf, assigns, Rising}
+use Rattle.paper.specs.Formula.{WellFormed, Formula, Formulas, FALSE, test, candidate, conjunction, disjunction, exists, IF, only, _⨾_}
 use Rattle.paper.specs.Branch.{branches}
 use Rattle.paper.specs.Judgement.{variables}
 use Rattle.paper.specs.Structure.Cover.{Cover, cover, leafCover, unitCover, joinCover, coverReading, coverOf}
 use Rattle.paper.specs.Statements.{CountsSay}
 use Rattle.paper.proofs.Bools.{or-right, and-left, not-so}
 use Rattle.paper.proofs.Lists.{any-append, of-any, to-those, of-those, howMany-append, pairs-none}
-use Rattle.paper.proofs.Labels.{same-refl, same-eq, has-head, mem-has, has-left, has-right, sub-has, rising-above, rising-split, candidate-sub, candidates-sub}
+use Rattle.paper.proofs.Labels.{same-refl, same-eq, has-head, mem-has, has-left, has-right}
+use Rattle.paper.proofs.Labels.{sub-has, rising-above, rising-split, candidate-sub, candidates-sub}
 use Rattle.paper.proofs.Readings.{branchUnit, branchJoin, branchReading, AtLeaves, AtLeavesOf, leaves-map, carried, branches-read}
 use Rattle.paper.proofs.Variables.{to-variables}
 

@@ -6,10 +6,12 @@ use native.Mathlib.Nat.{le-trans, le-antisymm}
 use mathlib.Core.Path.{_≡_, refl, sym, subst, ap, _∙_}
 use mathlib.Core.Bool.{Bool, true, false, false≢true}
 use mathlib.Core.Logic.{_⊎_, inl, inr}
-use mathlib.Core.List.{List, [], _∷_, _++_, map, append-nil, map-append, List·Memᴰ, List·Memᴰ·cases-cons, List·Memᴰ·not-nil, List·Memᴰ·append-cases, List·Memᴰ·eq-of-singleton, Memᴰ·map, Sublistᴰ, Sublistᴰ·slnil, Sublistᴰ·cons, Sublistᴰ·cons-cons, Sublistᴰ·append, Sublistᴰ·nil-sublist}
+use mathlib.Core.List.{List, [], _∷_, _++_, map, append-nil, map-append, List·Memᴰ, List·Memᴰ·cases-cons, List·Memᴰ·not-nil, List·Memᴰ·append-cases}
+use mathlib.Core.List.{List·Memᴰ·eq-of-singleton, Memᴰ·map, Sublistᴰ, Sublistᴰ·slnil, Sublistᴰ·cons, Sublistᴰ·cons-cons, Sublistᴰ·append, Sublistᴰ·nil-sublist}
 use borrow.Author.Tests.{eq-eqb, eqb-true}
 use Rattle.paper.specs.Lists.{those}
-use Rattle.paper.specs.Formula.{Label, Variable, Candidate, same, alike, has, labels, labelsOf, candidates, candidatesOf, Rising, Formula, Formulas, FALSE, test, candidate, conjunction, disjunction, exists, IF, only, _⨾_}
+use Rattle.paper.specs.Formula.{Label, Variable, Candidate, same, alike, has, labels, labelsOf, candidates, candidatesOf, Rising}
+use Rattle.paper.specs.Formula.{Formula, Formulas, FALSE, test, candidate, conjunction, disjunction, exists, IF, only, _⨾_}
 use Rattle.paper.specs.Branch.{branches, ofEach, ofAny}
 use Rattle.paper.proofs.Bools.{or-left, or-right, or-cases, pick}
 use Rattle.paper.proofs.Lists.{to-any, of-any, any-append, to-those, of-those, of-pairs}

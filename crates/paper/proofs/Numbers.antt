@@ -6,13 +6,15 @@ use native.Mathlib.Omega.{arith}
 use native.Mathlib.Nat.{zero-mul, add-mul, mul-assoc}
 use mathlib.Core.Path.{_≡_, refl, sym, subst, ap, ap₂, _∙_}
 use mathlib.Core.Bool.{Bool, true, false, cond, _&&_, _||_, and-assoc, or-assoc, or-false, true≢false}
-use mathlib.Core.List.{List, [], _∷_, _++_, append-nil, List·Memᴰ, List·Memᴰ·head, List·Memᴰ·append-cases, Memᴰ·append-left, Memᴰ·append-right, Sublistᴰ, Sublistᴰ·cons, Sublistᴰ·append, Sublistᴰ·nil-sublist, Sublistᴰ·refl}
+use mathlib.Core.List.{List, [], _∷_, _++_, append-nil, List·Memᴰ, List·Memᴰ·head, List·Memᴰ·append-cases}
+use mathlib.Core.List.{Memᴰ·append-left, Memᴰ·append-right, Sublistᴰ, Sublistᴰ·cons, Sublistᴰ·append, Sublistᴰ·nil-sublist, Sublistᴰ·refl}
 use lib.Dec.{eqb, ltb}
 use lib.ListN.{length, getD, length-append, List·getD-append}
 use lib.Seq.{getD-append-add}
 use borrow.Author.Tests.{ltb-true, ltb-false, ne-eqb}
 use Rattle.paper.specs.Lists.{pairs}
-use Rattle.paper.specs.Formula.{Label, same, has, labels, labelsOf, Rising, WellFormed, Formula, Formulas, FALSE, test, candidate, conjunction, disjunction, exists, IF, only, _⨾_}
+use Rattle.paper.specs.Formula.{Label, same, has, labels, labelsOf, Rising, WellFormed, Formula, Formulas}
+use Rattle.paper.specs.Formula.{FALSE, test, candidate, conjunction, disjunction, exists, IF, only, _⨾_}
 use Rattle.paper.specs.Branch.{branches, ofEach, ofAny}
 use Rattle.paper.specs.Strategy.{Homogeneous, MinimalCovering}
 use Rattle.paper.specs.Transition.{key, keys, isLower, isKept}
@@ -26,7 +28,8 @@ use Rattle.paper.proofs.Labels.{rising-ext, rising-split, branch-sub, a
 use Rattle.paper.proofs.Distinct.{sameKey-refl, isLower-irreflexive}
 use Rattle.paper.proofs.Readings.{joinedFromRight, from-the-unit}
 use Rattle.paper.proofs.Keys.{of-key, to-key, keptIn, to-kept, of-kept, key-rises, key-length}
-use Rattle.paper.proofs.KeyLists.{getD-mem, length-pairs, at-pairs, keysOf, Level, key-append, of-keysOf, keys-of-pairs, keys-of-append, keys-of-keyless, lower-key, kept-append, kept-none, kept-pairs}
+use Rattle.paper.proofs.KeyLists.{getD-mem, length-pairs, at-pairs, keysOf, Level, key-append, of-keysOf}
+use Rattle.paper.proofs.KeyLists.{keys-of-pairs, keys-of-append, keys-of-keyless, lower-key, kept-append, kept-none, kept-pairs}
 
 -- counts of keys, joined
 pub number-of-both : (a b : KeyCount) → number (joinKeys true a b) ≡ number a * number b

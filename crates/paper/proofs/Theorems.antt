@@ -9,7 +9,9 @@ use Rattle.paper.specs.Order.{Acyclic}
 use Rattle.paper.specs.Strategy.{Homogeneous, MinimalCovering, Strategy}
 use Rattle.paper.specs.Meaning.{Meaning}
 use Rattle.paper.specs.Cases.{P, numbered}
-use Rattle.paper.specs.Statements.{BranchesAreMinimalModels, FrozenIsLeast, Proposition5, Proposition6, Proposition7, Proposition8, Theorem2, AcceptedExactly, AcceptedOnlySo, Refusal13, OrderExists, KeysAreListed, KeyLength, CarriedOut, ReportedIsOrder, CountsSay, SharingSays, NumbersSay}
+use Rattle.paper.specs.Statements.{BranchesAreMinimalModels, FrozenIsLeast, Proposition5, Proposition6, Proposition7, Proposition8, Theorem2}
+use Rattle.paper.specs.Statements.{AcceptedExactly, AcceptedOnlySo, Refusal13, OrderExists, KeysAreListed, KeyLength, CarriedOut, ReportedIsOrder}
+use Rattle.paper.specs.Statements.{CountsSay, SharingSays, NumbersSay}
 use Rattle.paper.proofs.BoolForm.{branches-are-minimal-models}
 use Rattle.paper.proofs.Frozen.{frozen-is-least}
 use Rattle.paper.proofs.Truth as Truth

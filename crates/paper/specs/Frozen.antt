@@ -3,7 +3,8 @@ use mathlib.Core.Bool.{Bool, true, _&&_}
 use mathlib.Core.Path.{_≡_}
 use mathlib.Core.List.{List, [], _∷_, _++_}
 use Rattle.paper.specs.Lists.{anyOf}
-use Rattle.paper.specs.Formula.{Label, Variable, Star, same, holds, lab, Formula, Formulas, FALSE, test, candidate, conjunction, disjunction, exists, IF, only, _⨾_}
+use Rattle.paper.specs.Formula.{Label, Variable, Star, same, holds, lab, Formula, Formulas, FALSE}
+use Rattle.paper.specs.Formula.{test, candidate, conjunction, disjunction, exists, IF, only, _⨾_}
 
 -- A label of a formula with the stars that freeze variables at it: the guards of every exists and IF around it,
 -- outermost first, and last its own star, if it is a star or a candidate.

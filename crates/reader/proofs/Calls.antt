@@ -63,7 +63,8 @@ pub answered : {M : Type 1} {𝓤 : URA M} {H : Heap 𝓤} {A : Atoms 𝓤} {K :
     → K → Soaks G → (T : Ended) (c : Clauses 𝓤 T) (y : promised 𝓤 H A T c .Ghost) (φ : Result 𝓤 H A T c y → Type 0)
     → ((r : Result 𝓤 H A T c y) (ws : Ends 𝓤 H A T c y) → ent 𝓤 (Says 𝓤 H A T c y r ws) (fact 𝓤 (φ r)))
     → (u : Val)
-    → ((r : Result 𝓤 H A T c y) → φ r → Is (Returned 𝓤 H A T c y) r (u ∷ []) → Seq K W (‵ (Returned 𝓤 H A T c y .own r (u ∷ [])) ∷ raw (Alive 𝓤 H A T c y) ∷ Γ) G)
+    → ((r : Result 𝓤 H A T c y) → φ r → Is (Returned 𝓤 H A T c y) r (u ∷ [])
+    → Seq K W (‵ (Returned 𝓤 H A T c y .own r (u ∷ [])) ∷ raw (Alive 𝓤 H A T c y) ∷ Γ) G)
     → Seq K W (raw (promised 𝓤 H A T c .post y u) ∷ Γ) G
 answered {𝓤 = 𝓤} {H = H} {A = A} {W = W} t soaks T c y φ says u k =
     let R : RattleType = Returned 𝓤 H A T c y in

@@ -13,7 +13,8 @@ use Rattle.paper.specs.declared.Label.{Label}
 use Rattle.paper.specs.Formula.{ℓ}
 use Rattle.paper.proofs.Bools.{and-left, and-right}
 use Rattle.entries.specs.First.{first}
-use Rattle.rows.specs.Rows.{kindOf, argOf, endOf, fromOf, Form, aFALSE, aStar, aCandidate, aConjunction, aDisjunction, anExists, anIF, noForm, formOf, meets, takenBefore, guarded, falseRule, starRule, candidateRule, joinRule, boundRule, keepsForm, endsWithin, keepsRules}
+use Rattle.rows.specs.Rows.{kindOf, argOf, endOf, fromOf, Form, aFALSE, aStar, aCandidate, aConjunction, aDisjunction, anExists, anIF, noForm, formOf}
+use Rattle.rows.specs.Rows.{meets, takenBefore, guarded, falseRule, starRule, candidateRule, joinRule, boundRule, keepsForm, endsWithin, keepsRules}
 use Rattle.entries.specs.Entries.{falls, ascend}
 use Rattle.rows.proofs.Forms.{by-form}
 use Rattle.rows.proofs.Meets.{of-no-child}

@@ -5,7 +5,8 @@ ghost use Prim.Native.Nat.{_+_, _*_, _≤_, _<_};
 ghost use lib.ListN.{length};
 ghost use Rattle.paper.specs.Formula.{ℓ};
 ghost use Rattle.entries.specs.First.{first};
-ghost use Rattle.rows.specs.Rows.{kindOf, argOf, endOf, fromOf, formOf, meets, takes, takenBefore, guarded, falseRule, starRule, candidateRule, joinRule, boundRule, endsWithin, keepsRules, breaksRules, InRows};
+ghost use Rattle.rows.specs.Rows.{kindOf, argOf, endOf, fromOf, formOf, meets, takes, takenBefore, guarded};
+ghost use Rattle.rows.specs.Rows.{falseRule, starRule, candidateRule, joinRule, boundRule, endsWithin, keepsRules, breaksRules, InRows};
 
 pub mod depth; // how deep rows lie: refusal 8
 pub mod walk; // the expressions under a row, for the walks of the layers above

@@ -10,7 +10,8 @@ use lib.ListN.{length, getD}
 use borrow.Author.Tests.{eq-eqb, eqb-true, not-false}
 use Rattle.paper.specs.declared.Label.{Label}
 use Rattle.paper.specs.Lists.{those}
-use Rattle.paper.specs.Formula.{ℓ, same, Candidate, candidates, candidatesOf, isCandidate, Formula, Formulas, FALSE, test, candidate, conjunction, disjunction, exists, IF, only, _⨾_}
+use Rattle.paper.specs.Formula.{ℓ, same, Candidate, candidates, candidatesOf, isCandidate, Formula, Formulas, FALSE}
+use Rattle.paper.specs.Formula.{test, candidate, conjunction, disjunction, exists, IF, only, _⨾_}
 use Rattle.paper.specs.Judgement.{strangers}
 use Rattle.paper.proofs.Bools.{same-answer}
 use Rattle.paper.proofs.Lists.{to-any, of-any, of-none}

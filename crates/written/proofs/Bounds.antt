@@ -5,7 +5,8 @@ use mathlib.Core.Path.{_≡_, subst}
 use mathlib.Core.Bool.{true}
 use mathlib.Core.List.{List, _++_, List·Memᴰ, Memᴰ·append-left, Memᴰ·append-right, Memᴰ·map}
 use lib.ListN.{length, take, drop, length-append, take-append-drop}
-use Rattle.paper.specs.Formula.{Star, Candidate, Formula, Formulas, FALSE, test, candidate, conjunction, disjunction, exists, IF, only, _⨾_, labels, labelsOf, stars, starsOf, candidates, candidatesOf}
+use Rattle.paper.specs.Formula.{Star, Candidate, Formula, Formulas, FALSE, test, candidate, conjunction, disjunction, exists}
+use Rattle.paper.specs.Formula.{IF, only, _⨾_, labels, labelsOf, stars, starsOf, candidates, candidatesOf}
 use Rattle.rows.specs.Rows.{kindOf, argOf, fromOf, keepsRules}
 use Rattle.written.specs.Written.{readWords, size, takenReads, Ascend}
 use Rattle.written.proofs.Words.{Each, each-none, each-cons, each-append, to-ascend}

@@ -7,7 +7,8 @@ use mathlib.Core.List.{List}
 use Rattle.table.specs.declared.Layout.{Layout}
 use Rattle.table.specs.declared.Checked.the-variants.{Sound}
 use Rattle.entries.specs.First.{first}
-use Rattle.rows.specs.Rows.{formOf, meets, takenBefore, falseRule, starRule, candidateRule, joinRule, boundRule, endsWithin, keepsRules, roundOf, depthOf, InRows, Nested}
+use Rattle.rows.specs.Rows.{formOf, meets, takenBefore, falseRule, starRule, candidateRule, joinRule}
+use Rattle.rows.specs.Rows.{boundRule, endsWithin, keepsRules, roundOf, depthOf, InRows, Nested}
 use Rattle.entries.specs.Entries.{ascend}
 use Rattle.sections.specs.Sections.{openAt, variablesAt, readsAt, rowsAt, strategyAt, endAt}
 use Rattle.table.specs.Table.{sections, checked, layout, rowsIn}

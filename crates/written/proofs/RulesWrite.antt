@@ -8,7 +8,8 @@ use mathlib.Core.List.{List, [], _∷_, map}
 use lib.ListN.{length, take, drop, length-append, length-map}
 use lib.Seq.{length-take-le}
 use Rattle.paper.specs.Formula.{𝓋, Formula, Formulas, test, labels, labelsOf, stars, starsOf}
-use Rattle.rows.specs.Rows.{kindOf, argOf, endOf, fromOf, Form, aFALSE, aStar, aCandidate, aConjunction, aDisjunction, anExists, anIF, noForm, formOf, meets, takes, takenBefore, keepsRules}
+use Rattle.rows.specs.Rows.{kindOf, argOf, endOf, fromOf, Form, aFALSE, aStar, aCandidate, aConjunction}
+use Rattle.rows.specs.Rows.{aDisjunction, anExists, anIF, noForm, formOf, meets, takes, takenBefore, keepsRules}
 use Rattle.rows.specs.Formula.{starAt, childrenAt, nodeAt, formulaAt}
 use Rattle.written.specs.Written.{readsFrom, takenReads, size, width}
 use Rattle.written.proofs.Writes.{RowIs, StarIs, Writes, WritesAll}
@@ -16,7 +17,8 @@ use Rattle.rows.proofs.Meets.{child, no-child}
 use Rattle.rows.proofs.Nested.{rows-rise, past-guard}
 use Rattle.rows.proofs.Taken.{taken-next}
 use Rattle.written.proofs.StarReads.{taken-append, taken-star}
-use Rattle.rows.proofs.Rules.{KindIs, is-FALSE, is-star, is-candidate, is-conjunction, is-disjunction, is-exists, is-IF, is-none, kind-is, star-form, StarSays, JoinSays, Guards, Says, Kept, kept, root-ends}
+use Rattle.rows.proofs.Rules.{KindIs, is-FALSE, is-star, is-candidate, is-conjunction, is-disjunction, is-exists, is-IF, is-none}
+use Rattle.rows.proofs.Rules.{kind-is, star-form, StarSays, JoinSays, Guards, Says, Kept, kept, root-ends}
 
 length-read : (m : ℕ) (ws : List ℕ) → m ≤ length ws → length (map 𝓋 (take m ws)) ≡ m
 length-read m ws h = length-map (take m ws) 𝓋 ∙ length-take-le m ws h

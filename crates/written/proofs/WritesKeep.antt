@@ -9,9 +9,11 @@ use mathlib.Core.List.{List, [], _∷_, _++_, List·Memᴰ, List·Memᴰ·head, 
 use lib.ListN.{length, drop, length-append, length-map}
 use lib.Dec.{ltb, leb, eqb}
 use borrow.Author.Tests.{lt-ltb, le-leb, eq-eqb, eqb-true}
-use Rattle.paper.specs.Formula.{Star, Candidate, Formula, Formulas, FALSE, test, candidate, conjunction, disjunction, exists, IF, only, _⨾_, labels, labelsOf, stars, starsOf, candidates, candidatesOf}
+use Rattle.paper.specs.Formula.{Star, Candidate, Formula, Formulas, FALSE, test, candidate, conjunction, disjunction, exists}
+use Rattle.paper.specs.Formula.{IF, only, _⨾_, labels, labelsOf, stars, starsOf, candidates, candidatesOf}
 use Rattle.paper.proofs.Bools.{both, pick}
-use Rattle.rows.specs.Rows.{kindOf, argOf, endOf, fromOf, formOf, meets, takes, takenBefore, guarded, falseRule, starRule, candidateRule, joinRule, boundRule, keepsForm, endsWithin, keepsRules}
+use Rattle.rows.specs.Rows.{kindOf, argOf, endOf, fromOf, formOf, meets, takes, takenBefore, guarded}
+use Rattle.rows.specs.Rows.{falseRule, starRule, candidateRule, joinRule, boundRule, keepsForm, endsWithin, keepsRules}
 use Rattle.entries.specs.Entries.{ascend}
 use Rattle.written.specs.Written.{readWords, readsFrom, takenReads, size, width, Ascend}
 use Rattle.written.proofs.Stands.{stands-room}

@@ -7,7 +7,8 @@ use mathlib.Core.List.{List, [], _∷_, _++_, map}
 use lib.ListN.{length, getD, take, drop, length-append, length-map}
 use lib.Seq.{drop-cons}
 use Rattle.paper.specs.declared.Label.{Label}
-use Rattle.paper.specs.Formula.{ℓ, 𝓋, Star, Formula, Formulas, FALSE, test, candidate, conjunction, disjunction, exists, IF, only, _⨾_, labels, labelsOf, stars, starsOf}
+use Rattle.paper.specs.Formula.{ℓ, 𝓋, Star, Formula, Formulas, FALSE, test, candidate, conjunction}
+use Rattle.paper.specs.Formula.{disjunction, exists, IF, only, _⨾_, labels, labelsOf, stars, starsOf}
 use Rattle.written.specs.Written.{readWords, readsFrom, takenReads, size, rowWords, starWords, rowsFrom, rowsFromAll, labelsOn}
 use Rattle.written.proofs.Writes.{RowIs, StarIs, Writes, WritesAll}
 use Rattle.written.proofs.WrittenRows.{length-rows}

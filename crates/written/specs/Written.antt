@@ -6,7 +6,8 @@ use mathlib.Core.Path.{_≡_}
 use lib.ListN.{length}
 use Rattle.paper.specs.declared.Label.{Label}
 use Rattle.paper.specs.declared.Variable.{Variable}
-use Rattle.paper.specs.Formula.{ℓ, Star, Candidate, Formula, Formulas, FALSE, test, candidate, conjunction, disjunction, exists, IF, only, _⨾_, labels, labelsOf, stars, candidates, Rising}
+use Rattle.paper.specs.Formula.{ℓ, Star, Candidate, Formula, Formulas, FALSE, test, candidate, conjunction, disjunction}
+use Rattle.paper.specs.Formula.{exists, IF, only, _⨾_, labels, labelsOf, stars, candidates, Rising}
 
 pub record Table : Type 0 where
   pub names : List ℕ

@@ -6,7 +6,8 @@ use native.Mathlib.Omega.{arith}
 use mathlib.Core.Path.{sym, _∙_}
 use borrow.Fn.Kinds.{In}
 use borrow.Fn.PlainCycle.{Measures, is, falls, and}
-use Rattle.rows.proofs.Walks.{value-none, value-FALSE, value-test, value-candidate, row-there, row-few, row-known, Walking, walk-begins, walk-on, walk-turns, walk-ends}
+use Rattle.rows.proofs.Walks.{value-none, value-FALSE, value-test, value-candidate, row-there, row-few}
+use Rattle.rows.proofs.Walks.{row-known, Walking, walk-begins, walk-on, walk-turns, walk-ends}
 use Rattle.cover.specs.Words.{unitWords, wordsReading}
 use Rattle.cover.proofs.words_of.Reads as words-of
 use Rattle.cover.proofs.words_of.Kinds as kinds

@@ -9,7 +9,8 @@ use mathlib.Core.List.{List}
 use borrow.Fn.Kinds.{In}
 use borrow.Fn.PlainCycle.{Measures, is, falls, and}
 use Rattle.rows.specs.Rows.{kindOf}
-use Rattle.rows.proofs.Walks.{value-none, value-FALSE, value-test, value-candidate, row-there, row-few, row-known, Walking, walk-begins, walk-on, walk-turns, walk-ends}
+use Rattle.rows.proofs.Walks.{value-none, value-FALSE, value-test, value-candidate, row-there, row-few}
+use Rattle.rows.proofs.Walks.{row-known, Walking, walk-begins, walk-on, walk-turns, walk-ends}
 use Rattle.keys.specs.declared.Distinct.{Distinct}
 use Rattle.marks.specs.Marks.{isMarked}
 use Rattle.keys.specs.Keys.{limit, leafKeys, joinKeys, keysReading, keysAt}

@@ -9,7 +9,8 @@ use borrow.Author.Tests.{not-true, not-false}
 use borrow.Fn.Kinds.{In}
 use borrow.Fn.PlainCycle.{Measures, is, falls, and}
 use Rattle.rows.proofs.Walks.{row-there, row-few, row-known}
-use Rattle.transitions.proofs.Taking.{kept-off, set-with-none, set-alone, Taking, taking-begins, taking-on, taking-take, taking-asks, taking-turns, taking-ends, to-come-most}
+use Rattle.transitions.proofs.Taking.{kept-off, set-with-none, set-alone, Taking, taking-begins, taking-on}
+use Rattle.transitions.proofs.Taking.{taking-take, taking-asks, taking-turns, taking-ends, to-come-most}
 use Rattle.transitions.proofs.kept.keep.Reads as keep
 use Rattle.transitions.proofs.kept.keep.Kinds as kinds
 use Rattle.transitions.proofs.kept.+keep.Lts-keep as lts
