@@ -33,6 +33,7 @@ use Rattle.verdict.specs.declared.Accepted.{Accepted}
 use Rattle.verdict.specs.declared.Judged.{Judged}
 use Rattle.verdict.specs.declared.Judged.the-variants as judged
 use Rattle.verdict.specs.Verdict.{acceptedWith}
+use Rattle.marks.specs.Marks.{isMarked}
 use Rattle.strategy.specs.Judge.{judgedOf, proposalIn}
 use Rattle.strategy.proofs.Exactly.{accepted-exactly}
 use Rattle.strategy.proofs.Placed.{order-length}
@@ -157,7 +158,8 @@ module _ (words : List ℕ) (a : Accepted) (e : judgedOf words ≡ judged.Accept
   enough room ws h = rw (le-ltb room (length ws) h)
 
   -- the byte of a label of the formula is 1 if transition k keeps it, else not
-  byte-says : (k : ℕ) (i : Label) → List·Memᴰ i (labels f) → eqb (getD (marksOf words l k) (i .0) 0) 1 ≡ isKept f A (keyOf words l k) i
+  byte-says : (k : ℕ) (i : Label) → List·Memᴰ i (labels f) → isMarked (marksOf words l k) (i .0) ≡ isKept f A (keyOf words l k) i
+  unfolding isMarked
   byte-says k i t = rw (known .labels-are, bytes-at (isKept f A (keyOf words l k)) (l .rows) (i .0) below) (go (isKept f A (keyOf words l k) i))
     where
       below : i .0 < l .rows

@@ -4,8 +4,7 @@ use Prim.Native.Nat.{ℕ, _<_, _≤_}
 use mathlib.Core.Path.{_≡_}
 use mathlib.Core.Logic.{_↔_}
 use mathlib.Core.List.{List, map, List·Memᴰ}
-use lib.Dec.{eqb}
-use lib.ListN.{length, getD}
+use lib.ListN.{length}
 use Rattle.paper.specs.declared.Label.{Label}
 use Rattle.paper.specs.Lists.{those}
 use Rattle.paper.specs.Formula.{has}
@@ -20,6 +19,7 @@ use Rattle.sections.specs.declared.Refusal.{Refusal}
 use Rattle.table.specs.declared.Checked.the-variants.{Sound}
 use Rattle.table.specs.Table.{checked}
 use Rattle.written.specs.Tables.{formulaIn}
+use Rattle.marks.specs.Marks.{isMarked}
 use Rattle.strategy.specs.Judge.{proposalIn}
 use Rattle.filling.specs.declared.Filled.the-variants as filled
 use Rattle.filling.specs.Filling.{Outcome, refuses, fills, Fills}
@@ -53,7 +53,7 @@ module _ (words : List ℕ) (l : Layout) where
     pub listed : KeysAreListed (formulaIn words l) (proposalIn words l)
     pub each : (k room : ℕ) → k < length keysIn → l .rows ≤ room → transitionOf words k room ≡ fills (marksOf words l k)
     pub sliced : (k : ℕ) → k < length keysIn
-        → sliceBy (λ i. eqb (getD (marksOf words l k) (i .0) 0) 1) (formulaIn words l) ≡ transition (formulaIn words l) (proposalIn words l) (keyOf words l k)
+        → sliceBy (λ i. isMarked (marksOf words l k) (i .0)) (formulaIn words l) ≡ transition (formulaIn words l) (proposalIn words l) (keyOf words l k)
     pub no-more : (k room : ℕ) → length keysIn ≤ k → transitionOf words k room ≡ refuses 15 (length keysIn)
 
   -- Demand 3, first half, of accepted words: the order request gives the reported order; the chosen assignments of any branch can
