@@ -1,17 +1,25 @@
 // What stands between a line's request and its words: numbers, and a colon.
 ghost use Prim.Native.Nat.{_≤_};
 ghost use lib.ListN.{length};
+use crate::scan::FIELD;
 use crate::scan::after;
-use crate::scan::field_from;
+use crate::scan::find;
 use crate::scan::number_at;
 
-// How many numbers there are, the last of them and the one before it, and the position after the colon; where that is the
-// position that was asked, there is no heading.
+// How many numbers there are, two at most, and which; and the position after the colon. Where there is no such heading, it has
+// three numbers, which no request takes.
 pub struct Heading {
     pub numbers: usize,
-    pub k: usize,
-    pub len: usize,
+    pub first: usize,
+    pub second: usize,
     pub body: usize,
+}
+
+// 1 where a number that was asked for at `at` is there and ends later, else 0.
+fn counted(at: usize, end: usize) -> usize
+    ensures { λ r. ⌜ r ≤ 1 ⌝ }
+{
+    if at < end { 1 } else { 0 }
 }
 
 // The heading from `at` on.
@@ -19,33 +27,20 @@ pub fn heading_at(line: &[u8], at: usize) -> Heading
     requires { ⌜ at ≤ length (now line) ⌝ }
     ensures { λ r. ⌜ r .body ≤ length (now (line .entry)) ⌝ }
 {
-    let mut here = field_from(line, at);
-    let mut numbers = 0;
-    let mut k = 0;
-    let mut len = 0;
-    while here < line.len() {
-        let body = after(line, here, b":");
-        if here < body {
-            return Heading {
-                numbers,
-                k,
-                len,
-                body,
-            };
-        }
-        let next = number_at(line, here);
-        if next.end == here {
-            break;
-        }
-        numbers += 1;
-        k = len;
-        len = next.value;
-        here = field_from(line, next.end);
+    let here = find(line, at, FIELD);
+    let first = number_at(line, here);
+    let there = find(line, first.end, FIELD);
+    let second = number_at(line, there);
+    let colon = find(line, second.end, FIELD);
+    let body = after(line, colon, b':');
+    let mut numbers = 3;
+    if colon < body {
+        numbers = counted(here, first.end) + counted(there, second.end);
     }
     Heading {
         numbers,
-        k,
-        len,
-        body: at,
+        first: first.value,
+        second: second.value,
+        body,
     }
 }

@@ -9,6 +9,13 @@ use filling::Filled;
 // The longest slice that is lent.
 pub const ROOM: usize = 4096;
 
+// How much is lent where so much is asked for.
+fn lendable(len: usize) -> usize
+    ensures { λ r. ⌜ r ≤ 4096 ⌝ }
+{
+    if ROOM < len { ROOM } else { len }
+}
+
 // Words to lend from, and eight more.
 fn some_words() -> [u16; 4104]
     ensures { λ r. ⌜ 4104 ≡ length r ⌝ }
@@ -17,57 +24,56 @@ fn some_words() -> [u16; 4104]
 }
 
 // Bytes to lend from, and eight more.
-fn some_bytes() -> [u8; 4104]
-    ensures { λ r. ⌜ 4104 ≡ length r ⌝ }
-{
+fn some_bytes() -> [u8; 4104] {
     [255; 4104]
 }
 
 // The order, in a slice of so many words.
 pub fn order(words: &[u16], len: usize) {
     let mut out = some_words();
-    order_in(words, len, &mut out);
-}
-
-fn order_in(words: &[u16], len: usize, out: &mut [u16]) {
-    if out.len() < len {
-        return;
-    }
-    let answer = nocturenc::requests::order(words, &mut out[..len]);
-    filled(answer);
-    runs_to(out, len);
+    let n = lendable(len);
+    let answer = nocturenc::requests::order(words, &mut out[..n]);
+    show(answer, &out[..n + 8]);
 }
 
 // The assignments of transition k, in a slice of so many words.
 pub fn assignments(words: &[u16], k: usize, len: usize) {
     let mut out = some_words();
-    assignments_in(words, k, len, &mut out);
-}
-
-fn assignments_in(words: &[u16], k: usize, len: usize, out: &mut [u16]) {
-    if out.len() < len {
-        return;
-    }
-    let answer = nocturenc::requests::assignments(words, k, &mut out[..len]);
-    filled(answer);
-    runs_to(out, len);
+    let n = lendable(len);
+    let answer = nocturenc::requests::assignments(words, k, &mut out[..n]);
+    show(answer, &out[..n + 8]);
 }
 
 // The kept labels of transition k, in a slice of so many bytes.
 pub fn transition(words: &[u16], k: usize, len: usize) {
     let mut out = some_bytes();
-    let mut shown = some_words();
-    transition_in(words, k, len, &mut out);
-    widen(&out, &mut shown);
-    runs_to(&shown, len);
+    let n = lendable(len);
+    let answer = nocturenc::requests::transition(words, k, &mut out[..n]);
+    let shown = widened(&out);
+    show(answer, &shown[..n + 8]);
 }
 
-fn transition_in(words: &[u16], k: usize, len: usize, out: &mut [u8]) {
-    if out.len() < len {
-        return;
+// A byte as a word.
+fn wide(b: u8) -> u16 {
+    b as u16
+}
+
+// The bytes as words.
+fn widened(bytes: &[u8; 4104]) -> [u16; 4104] {
+    let mut words = [0u16; 4104];
+    let mut i = 0;
+    while i < 4104 {
+        words[i] = wide(bytes[i]);
+        i += 1;
     }
-    let answer = nocturenc::requests::transition(words, k, &mut out[..len]);
+    words
+}
+
+// Prints an answer, and the words by runs.
+fn show(answer: Filled, words: &[u16]) {
     filled(answer);
+    write::text(b" :");
+    runs(words);
 }
 
 // How many were filled, or the refusal.
@@ -79,35 +85,6 @@ fn filled(answer: Filled) {
         }
         Filled::Refused(r) => write::refusal(r),
     }
-    write::text(b" :");
-}
-
-// A byte as a word.
-fn wide(b: u8) -> u16 {
-    b as u16
-}
-
-// The bytes as words, as far as there is room.
-fn widen(bytes: &[u8], out: &mut [u16]) {
-    let mut i = 0;
-    while i < bytes.len() {
-        if out.len() <= i {
-            return;
-        }
-        out[i] = wide(bytes[i]);
-        i += 1;
-    }
-}
-
-// Prints the runs of a slice of so many words and of the eight after it.
-fn runs_to(words: &[u16], len: usize) {
-    if words.len() < 8 {
-        return;
-    }
-    if words.len() - 8 < len {
-        return;
-    }
-    runs(&words[..len + 8]);
 }
 
 // Prints the words by runs.
@@ -125,11 +102,10 @@ fn run_end(words: &[u16], at: usize) -> usize
     requires { ⌜ at < length (now words) ⌝ }
     ensures { λ r. ⌜ (at < r) × (r ≤ length (now (words .entry))) ⌝ }
 {
-    let value = words[at];
     let mut i = at + 1;
     while i < words.len() {
-        if words[i] != value {
-            return i;
+        if words[i] != words[at] {
+            break;
         }
         i += 1;
     }
@@ -139,7 +115,7 @@ fn run_end(words: &[u16], at: usize) -> usize
 // Prints a run.
 fn run(times: usize, value: u16) {
     if times == 1 {
-        write::number(value as usize);
+        write::word(value);
         return;
     }
     write::number(times);

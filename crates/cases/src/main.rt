@@ -10,88 +10,94 @@
 mod heading; // what stands between a request and the words
 mod lent; // the requests that fill a lent slice
 mod requests; // the requests, and what is printed of their answers
-mod scan; // the fields of a line
+mod scan; // lines, fields, signs and numbers
 mod words; // the words of a table, as a line writes them
 mod write; // printing
 
-ghost use mathlib.Core.Path.{_≡_};
 ghost use Prim.Native.Nat.{_≤_};
 ghost use lib.ListN.{length};
+use heading::Heading;
 use heading::heading_at;
 use libc::STDIN_FILENO;
 use requests::request_of;
 use requests::run;
 use requests::takes;
-use scan::field_end;
-use scan::field_from;
-use scan::line_end;
+use scan::END;
+use scan::FIELD;
+use scan::GAP;
+use scan::find;
 use words::lay_out;
 
-// Room for the list.
-fn room() -> [u8; 262144]
-    ensures { λ r. ⌜ 262144 ≡ length r ⌝ }
-{
+// Room for a list.
+fn list_room() -> [u8; 262144] {
     [0; 262144]
 }
 
-// Runs the case of a line whose name ends at `at`.
-fn run_case(line: &[u8], at: usize, words: &mut [u16])
-    requires { ⌜ at ≤ length (now line) ⌝ }
+// Room for the words of a table.
+fn words_room() -> [u16; 32768] {
+    [0; 32768]
+}
+
+// Makes a request with the words that follow a heading.
+fn run_words(line: &[u8], request: usize, heading: Heading)
+    requires { ⌜ heading .body ≤ length (now line) ⌝ }
 {
-    let from = field_from(line, at);
-    let end = field_end(line, from);
-    let request = request_of(&line[from..end]);
-    let heading = heading_at(line, end);
-    if heading.body == end {
-        write::malformed(from + 1);
-        return;
-    }
-    if !takes(request, heading) {
-        write::malformed(from + 1);
-        return;
-    }
-    let place = lay_out(line, heading.body, words);
+    let mut words = words_room();
+    let place = lay_out(line, heading.body, &mut words);
     if place.at < line.len() {
         write::malformed(place.at + 1);
         return;
     }
     let count = place.count;
-    run(request, heading, &words[..count]);
+    run(request, heading.first, heading.second, &words[..count]);
 }
 
-// Runs a line, unless it is empty or a comment.
-fn run_line(line: &[u8], words: &mut [u16]) {
-    let from = field_from(line, 0);
-    if line.len() <= from {
+// Runs the case of a line whose name ends at `at`.
+fn run_case(line: &[u8], at: usize)
+    requires { ⌜ at ≤ length (now line) ⌝ }
+{
+    let from = find(line, at, FIELD);
+    let end = find(line, from, GAP);
+    let request = request_of(&line[from..end]);
+    let heading = heading_at(line, end);
+    if takes(request, heading) {
+        run_words(line, request, heading);
+    } else {
+        write::malformed(from + 1);
+    }
+}
+
+// Whether a line is a case, and neither empty nor a comment; its first field begins at `from`.
+fn is_case(line: &[u8], from: usize) -> bool {
+    from < line.len() && line[from] != b'#'
+}
+
+// Runs a line, if it is a case.
+fn run_line(line: &[u8]) {
+    let from = find(line, 0, FIELD);
+    if !is_case(line, from) {
         return;
     }
-    if line[from] == b'#' {
-        return;
-    }
-    let end = field_end(line, from);
+    let end = find(line, from, GAP);
     write::text(&line[from..end]);
-    run_case(line, end, words);
+    run_case(line, end);
     write::text(b"\n");
 }
 
 // Runs all lines of a list.
-fn run_list(list: &[u8], words: &mut [u16]) {
+fn run_list(list: &[u8]) {
     let mut at = 0;
     while at < list.len() {
-        let end = line_end(list, at);
-        run_line(&list[at..end], words);
-        if list.len() <= end {
-            return;
-        }
+        let end = find(list, at, END);
+        run_line(&list[at..end]);
         at = end + 1;
     }
 }
 
 fn main() {
-    let mut list = room();
+    let mut list = list_room();
     let n = io::read_full(STDIN_FILENO, &mut list);
-    let mut words = [0u16; 32768];
-    run_list(&list[..n], &mut words);
+    run_list(&list[..n]);
     if n == list.len() {
         write::text(b"the list is too long\n");
     }

@@ -1,76 +1,68 @@
 // The requests that a case can make of the library, and what is printed of their answers.
 use crate::heading::Heading;
 use crate::lent;
+use crate::scan::GAP;
+use crate::scan::find;
 use crate::scan::is_word;
 use crate::write;
 use answers::Answer;
 use reader::Found;
 use table::Checked;
 
-pub enum Request {
-    Check,
-    Judge,
-    Order,
-    Transition,
-    Assignments,
-    Row,
-    Past,
-    Unknown,
-}
+// The requests, by their numbers in the list of names.
+const CHECK: usize = 0;
 
-// The request that a field names.
-pub fn request_of(field: &[u8]) -> Request {
-    if is_word(field, b"check") {
-        return Request::Check;
+const JUDGE: usize = 1;
+
+const ORDER: usize = 2;
+
+const TRANSITION: usize = 3;
+
+const ASSIGNMENTS: usize = 4;
+
+const ROW: usize = 5;
+
+const PAST: usize = 6;
+
+// The number of the request that a field names; past the last where it names none.
+pub fn request_of(field: &[u8]) -> usize {
+    let names: &[u8] = b"check judge order transition assignments row past";
+    let mut request = 0;
+    let mut at = 0;
+    while at < names.len() {
+        let end = find(names, at, GAP);
+        if is_word(field, &names[at..end]) {
+            break;
+        }
+        request += 1;
+        at = end + 1;
     }
-    if is_word(field, b"judge") {
-        return Request::Judge;
-    }
-    if is_word(field, b"order") {
-        return Request::Order;
-    }
-    if is_word(field, b"transition") {
-        return Request::Transition;
-    }
-    if is_word(field, b"assignments") {
-        return Request::Assignments;
-    }
-    if is_word(field, b"row") {
-        return Request::Row;
-    }
-    if is_word(field, b"past") {
-        return Request::Past;
-    }
-    Request::Unknown
+    request
 }
 
 // Whether a request can be made with the numbers of a heading.
-pub fn takes(request: Request, heading: Heading) -> bool {
+pub fn takes(request: usize, heading: Heading) -> bool {
     let numbers = heading.numbers;
-    let lendable = heading.len <= lent::ROOM;
     match request {
-        Request::Check => numbers == 0,
-        Request::Judge => numbers == 0,
-        Request::Order => lendable && numbers == 1,
-        Request::Transition => lendable && numbers == 2,
-        Request::Assignments => lendable && numbers == 2,
-        Request::Row => numbers == 1,
-        Request::Past => numbers == 1,
-        Request::Unknown => false,
+        CHECK | JUDGE => numbers == 0,
+        ORDER => numbers == 1 && heading.first <= lent::ROOM,
+        TRANSITION | ASSIGNMENTS => numbers == 2 && heading.second <= lent::ROOM,
+        ROW | PAST => numbers == 1,
+        _ => false,
     }
 }
 
-// Makes a request of the library, and prints what it gives.
-pub fn run(request: Request, heading: Heading, words: &[u16]) {
+// Makes a request of the library with the numbers of its heading, and prints what it gives.
+pub fn run(request: usize, first: usize, second: usize, words: &[u16]) {
     match request {
-        Request::Check => check(words),
-        Request::Judge => judge(words),
-        Request::Order => lent::order(words, heading.len),
-        Request::Transition => lent::transition(words, heading.k, heading.len),
-        Request::Assignments => lent::assignments(words, heading.k, heading.len),
-        Request::Row => row(reader::row_of(words, heading.len)),
-        Request::Past => row(reader::row_past(words, heading.len)),
-        Request::Unknown => {}
+        CHECK => check(words),
+        JUDGE => judge(words),
+        ORDER => lent::order(words, first),
+        TRANSITION => lent::transition(words, first, second),
+        ASSIGNMENTS => lent::assignments(words, first, second),
+        ROW => row(reader::row_of(words, first)),
+        PAST => row(reader::row_past(words, first)),
+        _ => {}
     }
 }
 
@@ -80,10 +72,7 @@ fn check(words: &[u16]) {
     match found {
         Checked::Sound(l) => {
             write::text(b" sound");
-            write::number(l.variables);
-            write::number(l.reads);
-            write::number(l.rows);
-            write::number(l.chosen);
+            write::four(l.variables, l.reads, l.rows, l.chosen);
         }
         Checked::Refused(r) => write::refusal(r),
     }
@@ -95,10 +84,7 @@ fn judge(words: &[u16]) {
     match found {
         Answer::Accepted(c) => {
             write::text(b" accepted");
-            write::number(c.variables);
-            write::number(c.rows);
-            write::number(c.chosen);
-            write::number(c.transitions);
+            write::four(c.variables, c.rows, c.chosen, c.transitions);
         }
         Answer::Refused(r) => write::refusal(r),
     }
@@ -109,11 +95,11 @@ fn row(found: Found) {
     match found {
         Found::Here(r) => {
             write::text(b" row");
-            write::number(r.label.0 as usize);
-            write::number(r.kind as usize);
-            write::number(r.arg as usize);
-            write::number(r.end.0 as usize);
-            write::number(r.from as usize);
+            write::word(r.label.0);
+            write::word(r.kind);
+            write::word(r.arg);
+            write::word(r.end.0);
+            write::word(r.from);
         }
         Found::Absent => write::text(b" absent"),
     }

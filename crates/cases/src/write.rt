@@ -15,6 +15,17 @@ pub fn number(n: usize) {
     digits(n);
 }
 
+pub fn word(w: u16) {
+    number(w as usize);
+}
+
+pub fn four(a: usize, b: usize, c: usize, d: usize) {
+    number(a);
+    number(b);
+    number(c);
+    number(d);
+}
+
 pub fn refusal(r: Refusal) {
     text(b" refused");
     number(r.number as usize);

@@ -1,22 +1,21 @@
 -- `run_list` ends, since each line takes it on in the list.
-use Prim.Native.Nat.{_-_, _≤_}
-use mathlib.Core.Path.{_≡_}
+use Prim.Native.Nat.{_-_}
 use borrow.Author.Needs.{needs}
 use lib.ListN.{length}
 use Rattle.cases.proofs.run_list.Statement.{statement}
 use Rattle.cases.proofs.run_list.Tie as tie
 
 abbrev Inv-loop : tie.InvT-loop
-Inv-loop list words₀ at₀ words at = (at ≤ length list) × (length words ≡ length words₀)
+Inv-loop list at₀ at = Unit {0}
 
 abbrev μ-loop : tie.MeasureT-loop
-μ-loop list words₀ at₀ words at = length list - at
+μ-loop list at₀ at = length list - at
 
 loop-holds : tie.Need-loop-holds Inv-loop μ-loop
 loop-holds c = search needs
 
-line-end-requires : tie.Need-line-end-requires Inv-loop μ-loop
-line-end-requires c κs = search needs
+find-requires : tie.Need-find-requires Inv-loop μ-loop
+find-requires c κs = search needs
 
 sub-run-line : tie.Need-sub-run-line Inv-loop μ-loop
 sub-run-line c = search needs
@@ -30,12 +29,6 @@ part-run-line-end c = search needs
 run-line-requires : tie.Need-run-line-requires Inv-loop μ-loop
 run-line-requires c κs = search needs
 
-same-length : tie.Need-same-length Inv-loop μ-loop
-same-length c = search needs
-
-returns : tie.Need-returns Inv-loop μ-loop
-returns c = search needs
-
 add-at : tie.Need-add-at Inv-loop μ-loop
 add-at c = search needs
 
@@ -45,11 +38,8 @@ loop-less c = search needs
 loop-again : tie.Need-loop-again Inv-loop μ-loop
 loop-again c = search needs
 
-same-length-2 : tie.Need-same-length-2 Inv-loop μ-loop
-same-length-2 c = search needs
-
-returns-2 : tie.Need-returns-2 Inv-loop μ-loop
-returns-2 c = search needs
+returns : tie.Need-returns Inv-loop μ-loop
+returns c = search needs
 
 pub run-list-spec : {M : Type 1} → statement M
 run-list-spec =
@@ -58,15 +48,12 @@ run-list-spec =
     Inv-loop
     μ-loop
     loop-holds
-    line-end-requires
+    find-requires
     sub-run-line
     part-run-line-start
     part-run-line-end
     run-line-requires
-    same-length
-    returns
     add-at
     loop-less
     loop-again
-    same-length-2
-    returns-2)
+    returns)

@@ -6,16 +6,10 @@ use Rattle.cases.proofs.lent.run_end.Statement.{statement}
 use Rattle.cases.proofs.lent.run_end.Tie as tie
 
 abbrev Inv-loop : tie.InvT-loop
-Inv-loop words at value i₀ i = (at < i) × (i ≤ length words)
+Inv-loop words at i₀ i = (at < i) × (i ≤ length words)
 
 abbrev μ-loop : tie.MeasureT-loop
-μ-loop words at value i₀ i = length words - i
-
-mul-value : tie.Need-mul-value Inv-loop μ-loop
-mul-value c = search needs
-
-shared-slice-read-value : tie.Need-shared-slice-read-value Inv-loop μ-loop
-shared-slice-read-value c = search needs
+μ-loop words at i₀ i = length words - i
 
 add-i : tie.Need-add-i Inv-loop μ-loop
 add-i c = search needs
@@ -29,8 +23,11 @@ mul-if1 c = search needs
 shared-slice-read-if1 : tie.Need-shared-slice-read-if1 Inv-loop μ-loop
 shared-slice-read-if1 c = search needs
 
-returns : tie.Need-returns Inv-loop μ-loop
-returns c = search needs
+mul-if1-2 : tie.Need-mul-if1-2 Inv-loop μ-loop
+mul-if1-2 c = search needs
+
+shared-slice-read-if1-2 : tie.Need-shared-slice-read-if1-2 Inv-loop μ-loop
+shared-slice-read-if1-2 c = search needs
 
 add-i-2 : tie.Need-add-i-2 Inv-loop μ-loop
 add-i-2 c = search needs
@@ -41,6 +38,9 @@ loop-less c = search needs
 loop-again : tie.Need-loop-again Inv-loop μ-loop
 loop-again c = search needs
 
+returns : tie.Need-returns Inv-loop μ-loop
+returns c = search needs
+
 returns-2 : tie.Need-returns-2 Inv-loop μ-loop
 returns-2 c = search needs
 
@@ -50,14 +50,14 @@ run-end-spec =
     (tie.spec
     Inv-loop
     μ-loop
-    mul-value
-    shared-slice-read-value
     add-i
     loop-holds
     mul-if1
     shared-slice-read-if1
-    returns
+    mul-if1-2
+    shared-slice-read-if1-2
     add-i-2
     loop-less
     loop-again
+    returns
     returns-2)

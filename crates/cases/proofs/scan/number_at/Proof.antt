@@ -6,7 +6,7 @@ use Rattle.cases.proofs.scan.number_at.Statement.{statement}
 use Rattle.cases.proofs.scan.number_at.Tie as tie
 
 abbrev Inv-loop : tie.InvT-loop
-Inv-loop line at value₀ i₀ value i = (at ≤ i) × (i ≤ length line) × (value < 18446744073709551616)
+Inv-loop line at value₀ i₀ value i = (i ≤ length line) × (value < 18446744073709551616)
 
 abbrev μ-loop : tie.MeasureT-loop
 μ-loop line at value₀ i₀ value i = length line - i
@@ -14,23 +14,17 @@ abbrev μ-loop : tie.MeasureT-loop
 loop-holds : tie.Need-loop-holds Inv-loop μ-loop
 loop-holds c = search needs
 
-shared-slice-read-b : tie.Need-shared-slice-read-b Inv-loop μ-loop
-shared-slice-read-b c = search needs
+shared-slice-read-digit-of : tie.Need-shared-slice-read-digit-of Inv-loop μ-loop
+shared-slice-read-digit-of c = search needs
+
+digit-of-requires : tie.Need-digit-of-requires Inv-loop μ-loop
+digit-of-requires c κs = search needs
+
+sub-if2 : tie.Need-sub-if2 Inv-loop μ-loop
+sub-if2 c = search needs
 
 returns : tie.Need-returns Inv-loop μ-loop
 returns c = search needs
-
-returns-2 : tie.Need-returns-2 Inv-loop μ-loop
-returns-2 c = search needs
-
-wide-requires : tie.Need-wide-requires Inv-loop μ-loop
-wide-requires c κs = search needs
-
-sub-if3 : tie.Need-sub-if3 Inv-loop μ-loop
-sub-if3 c = search needs
-
-returns-3 : tie.Need-returns-3 Inv-loop μ-loop
-returns-3 c = search needs
 
 mul-value : tie.Need-mul-value Inv-loop μ-loop
 mul-value c = search needs
@@ -47,8 +41,11 @@ loop-less c = search needs
 loop-again : tie.Need-loop-again Inv-loop μ-loop
 loop-again c = search needs
 
-returns-4 : tie.Need-returns-4 Inv-loop μ-loop
-returns-4 c = search needs
+returns-2 : tie.Need-returns-2 Inv-loop μ-loop
+returns-2 c = search needs
+
+returns-3 : tie.Need-returns-3 Inv-loop μ-loop
+returns-3 c = search needs
 
 pub number-at-spec : {M : Type 1} → statement M
 number-at-spec =
@@ -57,15 +54,14 @@ number-at-spec =
     Inv-loop
     μ-loop
     loop-holds
-    shared-slice-read-b
+    shared-slice-read-digit-of
+    digit-of-requires
+    sub-if2
     returns
-    returns-2
-    wide-requires
-    sub-if3
-    returns-3
     mul-value
     add-value
     add-i
     loop-less
     loop-again
-    returns-4)
+    returns-2
+    returns-3)

@@ -7,13 +7,13 @@ use Rattle.cases.proofs.words.lay_out.Statement.{statement}
 use Rattle.cases.proofs.words.lay_out.Tie as tie
 
 abbrev Inv-loop : tie.InvT-loop
-Inv-loop line at words₀ here₀ count₀ words here count = (at ≤ here) × (here ≤ length line) × (count ≤ length words₀) × (length words ≡ length words₀)
+Inv-loop line at words₀ here₀ count₀ words here count = (here ≤ length line) × (count ≤ length words₀) × (length words ≡ length words₀)
 
 abbrev μ-loop : tie.MeasureT-loop
 μ-loop line at words₀ here₀ count₀ words here count = length line - here
 
-field-from-requires : tie.Need-field-from-requires Inv-loop μ-loop
-field-from-requires c κs = search needs
+find-requires : tie.Need-find-requires Inv-loop μ-loop
+find-requires c κs = search needs
 
 loop-holds : tie.Need-loop-holds Inv-loop μ-loop
 loop-holds c = search needs
@@ -21,20 +21,20 @@ loop-holds c = search needs
 put-item-requires : tie.Need-put-item-requires Inv-loop μ-loop
 put-item-requires c κs = search needs
 
-same-length : tie.Need-same-length Inv-loop μ-loop
-same-length c = search needs
-
-returns : tie.Need-returns Inv-loop μ-loop
-returns c = search needs
-
-field-from-requires-2 : tie.Need-field-from-requires-2 Inv-loop μ-loop
-field-from-requires-2 c κs = search needs
+find-requires-2 : tie.Need-find-requires-2 Inv-loop μ-loop
+find-requires-2 c κs = search needs
 
 loop-less : tie.Need-loop-less Inv-loop μ-loop
 loop-less c = search needs
 
 loop-again : tie.Need-loop-again Inv-loop μ-loop
 loop-again c = search needs
+
+same-length : tie.Need-same-length Inv-loop μ-loop
+same-length c = search needs
+
+returns : tie.Need-returns Inv-loop μ-loop
+returns c = search needs
 
 same-length-2 : tie.Need-same-length-2 Inv-loop μ-loop
 same-length-2 c = search needs
@@ -48,13 +48,13 @@ lay-out-spec =
     (tie.spec
     Inv-loop
     μ-loop
-    field-from-requires
+    find-requires
     loop-holds
     put-item-requires
-    same-length
-    returns
-    field-from-requires-2
+    find-requires-2
     loop-less
     loop-again
+    same-length
+    returns
     same-length-2
     returns-2)

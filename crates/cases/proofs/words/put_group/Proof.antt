@@ -7,12 +7,10 @@ use Rattle.cases.proofs.words.put_group.Statement.{statement}
 use Rattle.cases.proofs.words.put_group.Tie as tie
 
 abbrev Inv-loop : tie.InvT-loop
-Inv-loop line at inside times words₀ n end₀ count₀ i₀ words end count i =
-    (at ≤ inside) × (inside ≤ length line) × (at ≤ end) × (end ≤ length line) × (n ≤ length words₀) × (count ≤ length words₀)
-    × (length words ≡ length words₀) × (i ≤ times) × (times ≤ 32768)
+Inv-loop line at times words₀ n place₀ i₀ words place i = (place .at ≤ length line) × (place .count ≤ length words₀) × (length words ≡ length words₀)
 
 abbrev μ-loop : tie.MeasureT-loop
-μ-loop line at inside times words₀ n end₀ count₀ i₀ words end count i = times - i
+μ-loop line at times words₀ n place₀ i₀ words place i = times - i
 
 returns : tie.Need-returns Inv-loop μ-loop
 returns c = search needs
@@ -23,12 +21,6 @@ loop-holds c = search needs
 put-entries-requires : tie.Need-put-entries-requires Inv-loop μ-loop
 put-entries-requires c κs = search needs
 
-same-length : tie.Need-same-length Inv-loop μ-loop
-same-length c = search needs
-
-returns-2 : tie.Need-returns-2 Inv-loop μ-loop
-returns-2 c = search needs
-
 add-i : tie.Need-add-i Inv-loop μ-loop
 add-i c = search needs
 
@@ -37,6 +29,12 @@ loop-less c = search needs
 
 loop-again : tie.Need-loop-again Inv-loop μ-loop
 loop-again c = search needs
+
+same-length : tie.Need-same-length Inv-loop μ-loop
+same-length c = search needs
+
+returns-2 : tie.Need-returns-2 Inv-loop μ-loop
+returns-2 c = search needs
 
 same-length-2 : tie.Need-same-length-2 Inv-loop μ-loop
 same-length-2 c = search needs
@@ -53,10 +51,10 @@ put-group-spec =
     returns
     loop-holds
     put-entries-requires
-    same-length
-    returns-2
     add-i
     loop-less
     loop-again
+    same-length
+    returns-2
     same-length-2
     returns-3)

@@ -1,27 +1,22 @@
--- `after` stays within the line: the bytes compared so far are some of the sign's, and the sign ends within the line.
-use Prim.Native.Nat.{_+_, _-_, _≤_}
+-- `is_word` compares byte by byte, within both.
+use Prim.Native.Nat.{_-_}
+use mathlib.Core.Path.{_≡_}
 use borrow.Author.Needs.{needs}
 use lib.ListN.{length}
-use Rattle.cases.proofs.scan.after.Statement.{statement}
-use Rattle.cases.proofs.scan.after.Tie as tie
+use Rattle.cases.proofs.scan.is_word.Statement.{statement}
+use Rattle.cases.proofs.scan.is_word.Tie as tie
 
 abbrev Inv-loop : tie.InvT-loop
-Inv-loop line at sign i₀ i = (i ≤ length sign) × (at + length sign ≤ length line)
+Inv-loop field word i₀ i = length field ≡ length word
 
 abbrev μ-loop : tie.MeasureT-loop
-μ-loop line at sign i₀ i = length sign - i
-
-sub-if1 : tie.Need-sub-if1 Inv-loop μ-loop
-sub-if1 c = search needs
+μ-loop field word i₀ i = length word - i
 
 returns : tie.Need-returns Inv-loop μ-loop
 returns c = search needs
 
 loop-holds : tie.Need-loop-holds Inv-loop μ-loop
 loop-holds c = search needs
-
-add-if2 : tie.Need-add-if2 Inv-loop μ-loop
-add-if2 c = search needs
 
 shared-slice-read-if2 : tie.Need-shared-slice-read-if2 Inv-loop μ-loop
 shared-slice-read-if2 c = search needs
@@ -41,27 +36,21 @@ loop-less c = search needs
 loop-again : tie.Need-loop-again Inv-loop μ-loop
 loop-again c = search needs
 
-add-result : tie.Need-add-result Inv-loop μ-loop
-add-result c = search needs
-
 returns-3 : tie.Need-returns-3 Inv-loop μ-loop
 returns-3 c = search needs
 
-pub after-spec : {M : Type 1} → statement M
-after-spec =
+pub is-word-spec : {M : Type 1} → statement M
+is-word-spec =
     tie.close
     (tie.spec
     Inv-loop
     μ-loop
-    sub-if1
     returns
     loop-holds
-    add-if2
     shared-slice-read-if2
     shared-slice-read-if2-2
     returns-2
     add-i
     loop-less
     loop-again
-    add-result
     returns-3)
