@@ -1,6 +1,6 @@
--- Fields of numbers: those put one after another are the fields of the numbers joined, the next position is a field or none, and
--- six bytes a label are enough. By induction over the numbers and over the bytes.
-use Prim.Native.Nat.{ℕ, suc, _+_, _*_, _≤_, _<_}
+-- Fields of numbers: those put one after another are the fields of the numbers joined, and the next position is a field or none. By
+-- induction over the numbers and over the bytes.
+use Prim.Native.Nat.{ℕ, suc, _+_, _<_}
 use native.Mathlib.Nat.{suc-add, add-suc, add-zero, zero-add}
 use native.Mathlib.Numerals.{add-one}
 use native.Mathlib.Omega.{arith}
@@ -8,14 +8,13 @@ use mathlib.Core.Path.{_≡_, refl, _∙_}
 use mathlib.Core.Bool.{Bool, true, false, cond}
 use mathlib.Core.List.{List, [], _∷_, _++_, append-assoc, append-nil}
 use lib.Dec.{eqb}
-use lib.ListN.{length, getD, take, length-append}
+use lib.ListN.{length, getD, take}
 use lib.Seq.{length-take-le, take-suc}
 use borrow.Author.Tests.{eq-eqb, ne-eqb}
 use Rattle.marks.specs.Marks.{positionsFrom, positions}
 use Rattle.listing.specs.Text.{field, fields}
 use Rattle.listing.specs.Placed.{Put}
 use Rattle.listing.proofs.Placing.{put-then}
-use Rattle.listing.proofs.Decimals.{five-digits}
 
 pub fields-append : (ms ns : List ℕ) → fields (ms ++ ns) ≡ fields ms ++ fields ns
 unfolding fields
@@ -66,13 +65,3 @@ position-kept k b h = rw (eq-eqb b 1 h, append-nil)
 pub position-left-out : (k b : ℕ) → (b ≡ 1 → ⊥) → fields (positionsFrom k (b ∷ [])) ≡ []
 unfolding fields positionsFrom
 position-left-out k b h = rw (ne-eqb b 1 h)
-
--- each number is below 65,536, and then takes six bytes at most, the space with it
-abbrev pub Small : List ℕ → Type 0
-Small ns = (i : ℕ) → getD ns i 0 < 65536
-
-pub fields-most : (ns : List ℕ) → Small ns → length (fields ns) ≤ 6 * length ns
-unfolding fields
-fields-most [] small = omega arith
-fields-most (n ∷ ns) small =
-    omega (arith, length-append (field n) (fields ns), five-digits n (small 0), fields-most ns (λ i. small (suc i)))
