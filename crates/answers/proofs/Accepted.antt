@@ -7,16 +7,13 @@ use mathlib.Core.Bool.{not}
 use mathlib.Core.List.{List, map}
 use lib.ListN.{length, take, length-map, length-take}
 use lib.Seq.{length-take-le, length-front}
-use Rattle.paper.specs.Formula.{ℓ, labels, isCandidate}
+use Rattle.paper.specs.Formula.{ℓ, isCandidate}
 use Rattle.paper.specs.Strategy.{Strategy}
 use Rattle.paper.specs.Transition.{keys}
-use Rattle.paper.specs.Judgement.{Judgement, accepted, judge}
 use Rattle.paper.proofs.Lists.{to-none}
 use Rattle.paper.proofs.Labels.{mem-has}
-use Rattle.paper.proofs.Judgement.{accepted-exactly, accepted-only-so}
-use Rattle.table.specs.declared.Layout.{Layout}
-use Rattle.table.specs.declared.Checked.{Checked}
-use Rattle.table.specs.declared.Checked.the-variants.{Sound, Refused}
+use Rattle.paper.proofs.Judgement.{accepted-exactly}
+use Rattle.table.specs.declared.Checked.the-variants.{Sound}
 use Rattle.table.specs.Table.{checked, chosenIn}
 use Rattle.written.specs.Tables.{Understood, formulaIn}
 use Rattle.written.proofs.Tables.{understood}
@@ -24,8 +21,8 @@ use Rattle.ordering.specs.Prior.{inFront}
 use Rattle.verdict.specs.declared.Accepted.{Accepted}
 use Rattle.verdict.specs.declared.Judged.{Judged}
 use Rattle.verdict.specs.declared.Judged.the-variants as judged
-use Rattle.verdict.proofs.Answers.{accepting}
-use Rattle.strategy.specs.Judge.{judgedOf, judgedAs, proposalIn, orderLeft, JudgedInto}
+use Rattle.strategy.specs.Judge.{judgedOf, proposalIn, orderLeft, JudgedInto, AcceptedSo}
+use Rattle.strategy.proofs.Exactly.{accepted-so}
 use Rattle.strategy.proofs.Held.{parts-of, chosen-rows}
 use Rattle.strategy.proofs.Strangers.{kinds-of}
 use Rattle.strategy.proofs.Placed.{order-length}
@@ -37,48 +34,24 @@ use Rattle.answers.specs.declared.Answer.the-variants as answer
 use Rattle.answers.specs.Requests.{judgeAnswer, judgeOf, FitCounts, reported, orderOutcome, orderOf, Ordered}
 use Rattle.answers.proofs.Answers.{accepted-first}
 
-abbrev judgement : List ℕ → Layout → Judgement
-judgement words l = judge (l .variables) (formulaIn words l) (proposalIn words l)
-
-record Passed (words : List ℕ) (k : Checked) (a : Accepted) : Type 0 where
-  sound : k ≡ Sound (a .layout)
-  v : ℕ
-  n : ℕ
-  s : ℕ
-  accepts : judgement words (a .layout) ≡ accepted v n s (a .transitions)
-
-passed : (words : List ℕ) (k : Checked) (a : Accepted) → judgedAs words k ≡ judged.Accepted a → Passed words k a
-passed words (Refused r) a e = let z : _≡_ {A = ℕ} 0 1 = cc in absurd (omega arith)
-passed words (Sound l) a e =
-    let (same, v, n, s, j) = accepting l (a .layout) (judgement words l) e in
-    record { sound = ap Sound same; v = v; n = n; s = s; accepts = ap (judgement words) (sym same) ∙ j }
-
 module _ (words : List ℕ) (a : Accepted) (e : judgedOf words ≡ judged.Accepted a) where
-  all-passed : Passed words (checked words) a
-  unfolding judgedOf
-  all-passed = passed words (checked words) a e
+  known : AcceptedSo words (a .layout) (a .transitions)
+  known = accepted-so words (a .layout) (a .transitions) e
 
   pub is-sound : checked words ≡ Sound (a .layout)
-  is-sound = all-passed .sound
+  is-sound = known .sound
 
   pub is-understood : Understood words (a .layout)
   is-understood = understood words (a .layout) is-sound
 
-  whole : judgement words (a .layout)
-      ≡ accepted (a .layout .variables) (length (labels (formulaIn words (a .layout)))) (length (proposalIn words (a .layout)))
-      (length (keys (formulaIn words (a .layout)) (proposalIn words (a .layout))))
-  whole = accepted-only-so (a .layout .variables) (formulaIn words (a .layout)) (proposalIn words (a .layout)) _ _ _ _ (all-passed .accepts)
-
   pub is-strategy : Strategy (a .layout .variables) (formulaIn words (a .layout)) (proposalIn words (a .layout))
-  is-strategy = accepted-exactly (a .layout .variables) (formulaIn words (a .layout)) (proposalIn words (a .layout)) .0 whole .0
+  is-strategy = known .strategy
 
   pub count-is : a .transitions ≡ length (keys (formulaIn words (a .layout)) (proposalIn words (a .layout)))
-  count-is = cc (all-passed .accepts, whole)
+  count-is = known .count
 
   pub few-transitions : a .transitions ≤ 65535
-  few-transitions =
-      let h = accepted-exactly (a .layout .variables) (formulaIn words (a .layout)) (proposalIn words (a .layout)) .0 whole .1 in
-      omega (arith, count-is)
+  few-transitions = omega (arith, known .count, known .few)
 
   -- a candidate takes two rows
   pub few-chosen : a .layout .chosen ≤ 2048
@@ -135,7 +108,9 @@ module _ (words order₀ order : List ℕ) (j : Judged) (i : JudgedInto words or
         let o = map (λ x. x .0) (reported words l) in
         let many = length-map (reported words l) (λ x. x .0) ∙ reported-length words a accepts in
         let few = few-chosen words a accepts in
-        let left = rw (is-sound words a accepts, all-passed words a accepts .accepts) at (i .left-so) in
+        let so = known words a accepts in
+        let whole = accepted-exactly (l .variables) (formulaIn words l) (proposalIn words l) .1 (so .strategy, so .few) in
+        let left = rw (so .sound, whole) at (i .left-so) in
         ap length left ∙ length-front order₀ o (length o) (sym (length-take-le (length o) order₀ (omega arith))) ∙ n
 
     pub order-filled : {lent left : List ℕ} {r : Filled} → Fills (unlessShort (length lent) (take (a .layout .chosen) order)) lent left r
