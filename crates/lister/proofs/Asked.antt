@@ -13,7 +13,7 @@ use Rattle.keys.specs.Keys.{keysAt}
 use Rattle.verdict.specs.declared.Accepted.{Accepted}
 use Rattle.verdict.specs.declared.Judged.{Judged}
 use Rattle.verdict.specs.declared.Judged.the-variants as judged
-use Rattle.bytes.specs.Bytes.{wordsOf, JudgedBytes}
+use Rattle.input.specs.Bytes.{wordsOf, JudgedBytes}
 use Rattle.answers.specs.Requests.{reported, Ordered}
 use Rattle.answers.proofs.Accepted.{is-understood, few-transitions, few-chosen, reported-length, order-stands, order-as-long}
 use Rattle.answers.proofs.Keeping.{rows-lent, chosen-lent}

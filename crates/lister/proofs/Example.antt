@@ -10,8 +10,8 @@ use Rattle.table.specs.Table.{sections, checked}
 use Rattle.rows.specs.Formula.{starAt, childrenAt, nodeAt, formulaAt}
 use Rattle.strategy.specs.Judge.{judgedOf}
 use Rattle.listing.specs.Text.{ascii, digits, decimal, fields, acceptedLine, orderLine, transitionLine, refusedLine}
-use Rattle.bytes.specs.Bytes.{wordsOf, judgedBytes}
-use Rattle.bytes.specs.Example.{bytesOfP}
+use Rattle.input.specs.Bytes.{wordsOf, judgedBytes}
+use Rattle.input.specs.Example.{bytesOfP}
 use Rattle.lister.specs.Listing.{lineOf, linesFrom, listingOf}
 
 pub listings : (listingOf bytesOfP ≡ ascii "accepted 2 8 3 2\norder 1 4 6\n0 assign 1 4 keep 1 4\n1 assign 1 6 keep 1 6\n")

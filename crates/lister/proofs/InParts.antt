@@ -13,7 +13,7 @@ use Rattle.verdict.specs.declared.Judged.the-variants as judged
 use Rattle.answers.specs.Requests.{reported}
 use Rattle.listing.specs.Text.{refusedLine}
 use Rattle.listing.specs.Placed.{placed, Put}
-use Rattle.bytes.specs.Bytes.{wordsOf, judgedBytes}
+use Rattle.input.specs.Bytes.{wordsOf, judgedBytes}
 use Rattle.lister.specs.Listing.{headOf, linesFrom, firstOf, listingOf}
 use Rattle.lister.specs.Steps.{Accepts}
 use Rattle.lister.proofs.LinesPut.{lines-split}

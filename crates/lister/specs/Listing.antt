@@ -9,7 +9,7 @@ use Rattle.verdict.specs.declared.Accepted.{Accepted}
 use Rattle.verdict.specs.declared.Judged.{Judged}
 use Rattle.verdict.specs.declared.Judged.the-variants as judged
 use Rattle.strategy.specs.Judge.{proposalIn}
-use Rattle.bytes.specs.Bytes.{wordsOf, judgedBytes}
+use Rattle.input.specs.Bytes.{wordsOf, judgedBytes}
 use Rattle.answers.specs.Requests.{reported, keyOf, assignedOf}
 use Rattle.listing.specs.Text.{acceptedLine, orderLine, transitionLine, refusedLine}
 

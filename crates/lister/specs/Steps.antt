@@ -11,7 +11,7 @@ use Rattle.keys.specs.Keys.{keysAt}
 use Rattle.verdict.specs.declared.Accepted.{Accepted}
 use Rattle.verdict.specs.declared.Judged.the-variants as judged
 use Rattle.strategy.specs.Judge.{proposalIn}
-use Rattle.bytes.specs.Bytes.{wordsOf, judgedBytes}
+use Rattle.input.specs.Bytes.{wordsOf, judgedBytes}
 use Rattle.answers.specs.Requests.{Ordered}
 use Rattle.listing.specs.Placed.{Put}
 use Rattle.lister.specs.declared.lines.Part.{Part}

@@ -4,7 +4,7 @@ mod parts; // the parts of a listing, written out one after another
 
 ghost use Prim.Native.Nat.{_≤_};
 ghost use lib.ListN.{length};
-use bytes::judging::judge_bytes;
+use input::judging::judge_bytes;
 use libc::STDIN_FILENO;
 use parts::list_accepted;
 use parts::list_refused;

@@ -4,7 +4,7 @@
 ghost use mathlib.Core.Path.{_≡_};
 ghost use Prim.Native.Nat.{_-_};
 ghost use lib.ListN.{length};
-ghost use Rattle.bytes.specs.Bytes.{wordsOf, judgedBytes};
+ghost use Rattle.input.specs.Bytes.{wordsOf, judgedBytes};
 ghost use Rattle.lister.specs.Listing.{linesFrom, firstOf};
 ghost use Rattle.lister.specs.Steps.{Accepts};
 use crate::lines::put_head;

@@ -2,9 +2,9 @@
 use Prim.Native.Nat.{_-_}
 use native.Mathlib.Omega.{arith}
 use borrow.Author.Needs.{needs}
-use Rattle.bytes.proofs.BytePairs.{Putting, putting-begins, putting-goes-on, putting-ends}
-use Rattle.bytes.proofs.words.fill_words.Statement.{statement}
-use Rattle.bytes.proofs.words.fill_words.Tie as tie
+use Rattle.input.proofs.BytePairs.{Putting, putting-begins, putting-goes-on, putting-ends}
+use Rattle.input.proofs.words.fill_words.Statement.{statement}
+use Rattle.input.proofs.words.fill_words.Tie as tie
 
 abbrev Inv-loop : tie.InvT-loop
 Inv-loop bytes words₀ count i₀ words i = Putting bytes words₀ words i

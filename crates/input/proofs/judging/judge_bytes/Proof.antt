@@ -2,9 +2,9 @@
 use mathlib.Core.Path.{sym}
 use borrow.Author.Needs.{needs}
 use lib.Seq.{length-take-le}
-use Rattle.bytes.proofs.BytesJudged.{odd-judged, even-judged}
-use Rattle.bytes.proofs.judging.judge_bytes.Statement.{statement}
-use Rattle.bytes.proofs.judging.judge_bytes.Tie as tie
+use Rattle.input.proofs.BytesJudged.{odd-judged, even-judged}
+use Rattle.input.proofs.judging.judge_bytes.Statement.{statement}
+use Rattle.input.proofs.judging.judge_bytes.Tie as tie
 
 cast-t10 : tie.Need-cast-t10
 cast-t10 c = search needs

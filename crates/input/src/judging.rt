@@ -2,7 +2,7 @@
 ghost use mathlib.Core.Path.{_≡_};
 ghost use Prim.Native.Nat.{_≤_};
 ghost use lib.ListN.{length};
-ghost use Rattle.bytes.specs.Bytes.{JudgedBytes};
+ghost use Rattle.input.specs.Bytes.{JudgedBytes};
 use crate::words::fill_words;
 use sections::Refusal;
 use strategy::judge_into;

@@ -9,7 +9,7 @@ use mathlib.Core.List.{List, [], _∷_}
 use lib.ListN.{length, getD, set, length-set}
 use lib.Seq.{paste, paste-zero, paste-suc, take-all}
 use Rattle.ordering.specs.Prior.{inFront}
-use Rattle.bytes.specs.Bytes.{wordsOf, WordsIn}
+use Rattle.input.specs.Bytes.{wordsOf, WordsIn}
 
 pub words-length : (bytes : List ℕ) → length (wordsOf bytes) ≡ length bytes / 2
 unfolding wordsOf

@@ -10,7 +10,7 @@ use Rattle.ordering.specs.Prior.{inFront}
 use Rattle.verdict.specs.declared.Judged.{Judged}
 use Rattle.verdict.specs.Verdict.{refusedAt}
 use Rattle.strategy.specs.Judge.{JudgedInto}
-use Rattle.bytes.specs.Bytes.{wordsOf, WordsIn, judgedBytes, wordsLeft, orderLeftBy, JudgedBytes}
+use Rattle.input.specs.Bytes.{wordsOf, WordsIn, judgedBytes, wordsLeft, orderLeftBy, JudgedBytes}
 
 module _ {bytes words : List ℕ} where
   pub odd-judged : {order : List ℕ} → length bytes % 2 ≡ 1 → JudgedBytes bytes words words order order (refusedAt 17 (length bytes / 2))

@@ -7,7 +7,7 @@ use Rattle.paper.specs.Outcome.{OneOutcome}
 use Rattle.paper.proofs.Outcome.{by-equation}
 use Rattle.ordering.specs.Prior.{inFront}
 use Rattle.verdict.specs.declared.Judged.{Judged}
-use Rattle.bytes.specs.Bytes.{wordsOf, WordsIn, judgedBytes, wordsLeft, orderLeftBy, JudgedBytes}
+use Rattle.input.specs.Bytes.{wordsOf, WordsIn, judgedBytes, wordsLeft, orderLeftBy, JudgedBytes}
 
 pub fill-words : (bytes lent : List ℕ) → OneOutcome (λ left r. WordsIn bytes lent left r)
 fill-words bytes lent left other r s p q =

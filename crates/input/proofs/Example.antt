@@ -3,8 +3,8 @@ use mathlib.Core.Path.{_≡_, refl}
 use mathlib.Core.List.{[], _∷_}
 use Rattle.written.specs.Example.{wordsOfP}
 use Rattle.verdict.specs.Verdict.{refusedAt}
-use Rattle.bytes.specs.Bytes.{wordsOf, judgedBytes}
-use Rattle.bytes.specs.Example.{bytesOfP}
+use Rattle.input.specs.Bytes.{wordsOf, judgedBytes}
+use Rattle.input.specs.Example.{bytesOfP}
 
 pub words-of-P : wordsOf bytesOfP ≡ wordsOfP
 unfolding wordsOf
