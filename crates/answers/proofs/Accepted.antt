@@ -17,7 +17,6 @@ use Rattle.table.specs.declared.Checked.the-variants.{Sound}
 use Rattle.table.specs.Table.{checked, chosenIn}
 use Rattle.written.specs.Tables.{Understood, formulaIn}
 use Rattle.written.proofs.Tables.{understood}
-use Rattle.ordering.specs.Prior.{inFront}
 use Rattle.verdict.specs.declared.Accepted.{Accepted}
 use Rattle.verdict.specs.declared.Judged.{Judged}
 use Rattle.verdict.specs.declared.Judged.the-variants as judged
@@ -102,7 +101,7 @@ module _ (words order₀ order : List ℕ) (j : Judged) (i : JudgedInto words or
 
     -- and the words lent for it are as many as they were
     pub order-as-long : length order₀ ≡ 2048 → length order ≡ 2048
-    unfolding orderLeft inFront
+    unfolding orderLeft
     order-as-long n =
         let l = a .layout in
         let o = map (λ x. x .0) (reported words l) in

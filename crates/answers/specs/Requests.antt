@@ -2,16 +2,17 @@
 -- afterwards. The last three fill a lent slice (crates/filling/specs/Filling.antt).
 use Prim.Native.Nat.{ℕ, _≤_, _<_}
 use mathlib.Core.Bool.{cond}
-use mathlib.Core.List.{List, [], _++_, map}
+use mathlib.Core.List.{List, [], map}
 use mathlib.Core.Path.{_≡_}
 use lib.Dec.{eqb, leb}
-use lib.ListN.{length, getD, take, drop}
+use lib.ListN.{length, getD, take}
 use Rattle.paper.specs.declared.Label.{Label}
 use Rattle.paper.specs.Lists.{those}
 use Rattle.paper.specs.Formula.{has, labels}
 use Rattle.paper.specs.Before.{before}
 use Rattle.paper.specs.Order.{order}
 use Rattle.paper.specs.Transition.{keys, isKept}
+use Rattle.entries.specs.Front.{inFront}
 use Rattle.table.specs.declared.Layout.{Layout}
 use Rattle.written.specs.Tables.{formulaIn}
 use Rattle.filling.specs.declared.Filled.{Filled}
@@ -120,5 +121,5 @@ pub record Asked (words : List ℕ) (a : Accepted) (k : ℕ) (kept : List ℕ) :
 
 -- the bytes of transition k stand in front of what was there, and how many chosen labels it keeps
 pub record Kept (words : List ℕ) (l : Layout) (k : ℕ) (lent left : List ℕ) (chosen : ℕ) : Type 0 where
-  pub bytes : left ≡ marksOf words l k ++ drop (length (marksOf words l k)) lent
+  pub bytes : left ≡ inFront (marksOf words l k) lent
   pub many : chosen ≡ length (keyOf words l k)

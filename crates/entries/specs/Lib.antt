@@ -1,2 +1,3 @@
 pub mod First
 pub mod Entries
+pub mod Front

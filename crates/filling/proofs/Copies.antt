@@ -6,8 +6,9 @@ use native.Mathlib.Omega.{arith}
 use mathlib.Core.Path.{_≡_, refl, sym, ap, _∙_}
 use mathlib.Core.List.{List, _++_}
 use lib.ListN.{length, getD, take, drop, set, length-set}
-use lib.Seq.{drop-cons, take-suc, set-at, append-snoc, length-take-le}
+use lib.Seq.{drop-cons, take-suc, set-at, append-snoc, take-all, length-take-le}
 use borrow.Author.Tests.{lt-ltb, le-ltb}
+use Rattle.entries.specs.Front.{inFront}
 use Rattle.filling.specs.declared.Filled.{Filled}
 use Rattle.filling.specs.declared.Filled.the-variants as filled
 use Rattle.filling.specs.Filling.{refuses, unlessShort, filledOf, copied, Fills}
@@ -24,6 +25,10 @@ copied-more from out k hf ho =
     ∙ set-at (take k from) (getD out k 0) (drop (suc k) out) (getD from k 0) k (length-take-le k from (omega arith))
     ∙ sym (append-snoc (take k from) (getD from k 0) (drop (suc k) out))
     ∙ ap (λ (r : List ℕ). r ++ drop (suc k) out) (sym (take-suc from k 0 hf)))
+
+pub copied-all : (from out : List ℕ) → copied from (length from) out ≡ inFront from out
+unfolding copied
+copied-all from out = ap (λ (ws : List ℕ). ws ++ drop (length from) out) (take-all (length from) from (omega arith))
 
 -- a copy of `count` entries that has come to entry i
 pub record Copying (from : List ℕ) (count : ℕ) (lent out : List ℕ) (i : ℕ) : Type 0 where

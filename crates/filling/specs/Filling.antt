@@ -6,6 +6,7 @@ use mathlib.Core.List.{List, _++_}
 use mathlib.Core.Path.{_≡_}
 use lib.Dec.{ltb}
 use lib.ListN.{length, take, drop}
+use Rattle.entries.specs.Front.{inFront}
 use Rattle.sections.specs.Sections.{refusal}
 use Rattle.filling.specs.declared.Filled.{Filled}
 use Rattle.filling.specs.declared.Filled.the-variants as filled
@@ -26,7 +27,7 @@ filledOf (fills ws) = filled.Done (record { count = length ws })
 
 abbrev pub after : Outcome → List ℕ → List ℕ
 after (refuses number place) out = out
-after (fills ws) out = ws ++ drop (length ws) out
+after (fills ws) out = inFront ws out
 
 -- what a request that fills answers and leaves
 pub record Fills (o : Outcome) (lent left : List ℕ) (r : Filled) : Type 0 where

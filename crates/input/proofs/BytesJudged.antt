@@ -6,7 +6,6 @@ use mathlib.Core.List.{List}
 use lib.ListN.{length, take, drop}
 use lib.Seq.{take-at}
 use borrow.Author.Tests.{eq-eqb, ne-eqb}
-use Rattle.ordering.specs.Prior.{inFront}
 use Rattle.verdict.specs.declared.Judged.{Judged}
 use Rattle.verdict.specs.Verdict.{refusedAt}
 use Rattle.strategy.specs.Judge.{JudgedInto}
@@ -24,7 +23,6 @@ module _ {bytes words : List ℕ} where
 
   module _ {lent : List ℕ} {count : ℕ} (w : WordsIn bytes lent words count) where
     in-front : take count words ≡ wordsOf bytes
-    unfolding inFront
     in-front = ap (take count) (w .stand) ∙ take-at (wordsOf bytes) (drop (length (wordsOf bytes)) lent) count (sym (w .many))
 
     pub even-judged : {order₀ order : List ℕ} {r : Judged} → (length bytes % 2 ≡ 1 → ⊥) → JudgedInto (take count words) order₀ order r

@@ -5,7 +5,7 @@ use mathlib.Core.List.{List}
 use lib.ListN.{length}
 use Rattle.paper.specs.Outcome.{OneOutcome}
 use Rattle.paper.proofs.Outcome.{by-equation}
-use Rattle.ordering.specs.Prior.{inFront}
+use Rattle.entries.specs.Front.{inFront}
 use Rattle.verdict.specs.declared.Judged.{Judged}
 use Rattle.input.specs.Bytes.{wordsOf, WordsIn, judgedBytes, wordsLeft, orderLeftBy, JudgedBytes}
 

@@ -8,7 +8,7 @@ use Rattle.paper.proofs.Outcome.{by-equation}
 use Rattle.filling.specs.Filling.{Outcome, filledOf, after, Fills}
 use Rattle.filling.proofs.OneOutcome.{one-filling}
 use Rattle.answers.specs.Requests.{judgeOf, orderOf, transitionOf, assignmentsOf}
-use Rattle.nocturenc.specs.Packed.{packedAnswer, packedFilled, Answers, FillsPacked}
+use Rattle.nocturenc.specs.Packed.{packedAnswer, packedFilled, AnswerPacked, FillsPacked}
 
 one-packed : (lent : List ℕ) (o : Outcome) → OneOutcome (λ left r. FillsPacked o lent left r)
 one-packed lent o left other r s p q =
@@ -18,7 +18,7 @@ module _ (words : List ℕ) where
   pub judge : OneAnswer (λ r. r ≡ judgeOf words)
   judge = by-equation (judgeOf words)
 
-  pub nocturenc-judge : OneAnswer (λ r. Answers (judgeOf words) r)
+  pub nocturenc-judge : OneAnswer (λ r. AnswerPacked (judgeOf words) r)
   nocturenc-judge r s p q = by-equation (packedAnswer (judgeOf words)) r s (p .answered) (q .answered)
 
   module _ (lent : List ℕ) where

@@ -8,9 +8,9 @@ use Rattle.filling.specs.declared.Filled.the-variants as filled
 use Rattle.answers.specs.declared.Counts.{Counts}
 use Rattle.answers.specs.declared.Answer.the-variants as answer
 use Rattle.answers.specs.Requests.{FitCounts}
-use Rattle.nocturenc.specs.Packed.{refusedAs, countsOf, packedAnswer, packedFilled, ReadRefusal, ReadFilling, Answers}
+use Rattle.nocturenc.specs.Packed.{refusedAs, countsOf, packedAnswer, packedFilled, ReadRefusal, ReadFilling, AnswerPacked}
 
-pub read-counts : (c : Counts) (n : ℕ) → FitCounts c → n ≡ countsOf c → Answers (answer.Accepted c) n
+pub read-counts : (c : Counts) (n : ℕ) → FitCounts c → n ≡ countsOf c → AnswerPacked (answer.Accepted c) n
 unfolding packedAnswer
 read-counts c n h e = record {
   answered = e;
@@ -23,7 +23,7 @@ read-counts c n h e = record {
   };
 }
 
-pub read-refused : (r : Refusal) (n : ℕ) → n ≡ refusedAs (r .number) (r .place) → ReadRefusal r n → Answers (answer.Refused r) n
+pub read-refused : (r : Refusal) (n : ℕ) → n ≡ refusedAs (r .number) (r .place) → ReadRefusal r n → AnswerPacked (answer.Refused r) n
 unfolding packedAnswer
 read-refused r n e h = record { answered = e; read-so = h }
 

@@ -54,7 +54,7 @@ ReadFilling (filled.Done l) n = ReadFilled l n
 ReadFilling (filled.Refused r) n = ReadRefusal r n
 
 -- an answer in one number, from which it can be read; and what a request that fills leaves
-pub record Answers (a : Answer) (n : ℕ) : Type 0 where
+pub record AnswerPacked (a : Answer) (n : ℕ) : Type 0 where
   pub answered : n ≡ packedAnswer a
   pub read-so : ReadAnswer a n
 

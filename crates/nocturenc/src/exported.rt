@@ -2,7 +2,7 @@
 ghost use mathlib.Core.Path.{_≡_};
 ghost use lib.ListN.{length};
 ghost use Rattle.answers.specs.Requests.{judgeOf, FitCounts, FitFilled, orderOf, transitionOf, assignmentsOf};
-ghost use Rattle.nocturenc.specs.Packed.{refusedAs, countsOf, packedFilled, ReadRefusal, ReadFilling, Answers, FillsPacked};
+ghost use Rattle.nocturenc.specs.Packed.{refusedAs, countsOf, packedFilled, ReadRefusal, ReadFilling, AnswerPacked, FillsPacked};
 use crate::requests::assignments;
 use crate::requests::judge;
 use crate::requests::order;
@@ -45,7 +45,7 @@ fn packed_filled(f: Filled) -> u64
 // Judges a table.
 #[no_mangle]
 pub extern "C" fn nocturenc_judge(words: &[u16]) -> u64
-    ensures { λ r. ⌜ Answers (judgeOf (now (words .entry))) r ⌝ }
+    ensures { λ r. ⌜ AnswerPacked (judgeOf (now (words .entry))) r ⌝ }
 {
     let answer = judge(words);
     match answer {

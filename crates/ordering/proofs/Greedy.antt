@@ -15,7 +15,8 @@ use Rattle.paper.specs.Order.{isReady, greedyBy}
 use Rattle.paper.proofs.Bools.{and-right}
 use Rattle.paper.proofs.Lists.{those-all}
 use Rattle.net.specs.Prior.{upTo}
-use Rattle.ordering.specs.Prior.{labelled, inFront}
+use Rattle.entries.specs.Front.{inFront}
+use Rattle.ordering.specs.Reported.{labelled}
 use Rattle.fingers.specs.Graph.{Graph, free, leftOf, slots, Started}
 use Rattle.ordering.specs.Placing.{State, Lowest, rest, Placing}
 use Rattle.fingers.proofs.Tests.{by-eq, by-lt, never}
@@ -137,7 +138,6 @@ module _ (g : Graph) where
   pub placing-done : (chosen : List ℕ) (count k : ℕ) (placed finger wait low out₀ out : List ℕ) → State g k placed finger wait low
       → Placing g chosen count placed out₀ out → g .size ≤ k
       → (count ≡ length (rest g (g .size) (upTo (g .size)))) × (out ≡ inFront (labelled chosen (rest g (g .size) (upTo (g .size)))) out₀)
-  unfolding inFront
   placing-done chosen count k placed finger wait low out₀ out s p h = (
     sym (sym (length-map (rest g (g .size) (upTo (g .size))) (λ i. getD chosen i 0)) ∙ ap length all ∙ long),
     sym (take-append-drop count out) ∙ ap (λ l. take count out ++ l) (p .behind) ∙ ap (λ l. take count out ++ drop l out₀) (sym long)

@@ -4,7 +4,8 @@ use mathlib.Core.List.{List}
 use lib.ListN.{length}
 use Rattle.paper.specs.Outcome.{OneOutcome}
 use Rattle.paper.proofs.Outcome.{by-equation}
-use Rattle.ordering.specs.Prior.{ordered, labelled, inFront, Filled}
+use Rattle.entries.specs.Front.{inFront}
+use Rattle.ordering.specs.Reported.{ordered, labelled, Filled}
 
 pub order : (rows reads chosen out : List ℕ) → OneOutcome (λ left r. Filled rows reads chosen out left r)
 order rows reads chosen out left other r s p q = (

@@ -1,2 +1,2 @@
-pub mod Prior
+pub mod Reported
 pub mod Placing

@@ -8,7 +8,7 @@ use lib.ListN.{length, getD, take, drop}
 use Rattle.paper.specs.Order.{greedyBy}
 use Rattle.net.specs.Prior.{upTo}
 use Rattle.fingers.specs.Graph.{Graph, free, leftOf, slots}
-use Rattle.ordering.specs.Prior.{labelled}
+use Rattle.ordering.specs.Reported.{labelled}
 
 -- j waits for f, which is not placed, and low says so
 pub record Blocked (g : Graph) (placed low : List ℕ) (j f : ℕ) : Type 0 where

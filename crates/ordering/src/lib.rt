@@ -6,7 +6,7 @@ ghost use Prim.Native.Nat.{_≤_, _<_};
 ghost use mathlib.Core.Bool.{_&&_};
 ghost use lib.Dec.{ltb};
 ghost use lib.ListN.{length};
-ghost use Rattle.ordering.specs.Prior.{Filled};
+ghost use Rattle.ordering.specs.Reported.{Filled};
 ghost use Rattle.fingers.specs.Ready.{Ready};
 ghost use Rattle.fingers.specs.Graph.{free};
 ghost use Rattle.ordering.specs.Placing.{State, Lowered, Visited, Lowest};

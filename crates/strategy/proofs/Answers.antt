@@ -42,7 +42,8 @@ use Rattle.keys.specs.Keys.{total, keysAt}
 use Rattle.cover.proofs.CoveringSays.{covering-says, gives-covered}
 use Rattle.keys.proofs.KeyNumbers.{keys-past-limit, keys-number}
 use Rattle.cycles.specs.Cyclic.{lowestCyclic}
-use Rattle.ordering.specs.Prior.{inFront, Filled}
+use Rattle.entries.specs.Front.{inFront}
+use Rattle.ordering.specs.Reported.{Filled}
 use Rattle.verdict.specs.declared.Judged.{Judged}
 use Rattle.verdict.specs.declared.Judged.the-variants as answer
 use Rattle.verdict.specs.Verdict.{acceptedWith, refusedAt, answerOf, isStranger, countedAs}
@@ -123,7 +124,6 @@ module _ {rows reads chosen : List ℕ} {l : Layout} {r : Judged} where
   -- an acceptance leaves the whole order in front
   fills : {#N : ℕ} {lent left : List ℕ} {v n s t : ℕ} → Parts rows reads chosen (l .variables) #N → JudgedParts rows reads chosen l lent left r
       → judgementBy rows reads chosen (l .variables) ≡ accepted v n s t → take (length chosen) left ≡ reported rows reads chosen
-  unfolding inFront
   fills {lent = lent} p j a =
       let f = formulaOf rows reads in
       let A = proposalOf chosen in

@@ -25,7 +25,8 @@ use Rattle.rows.proofs.Meets.{lt-or-le}
 use Rattle.net.specs.Net.{Chosen, Net}
 use Rattle.net.proofs.PriorIsBefore.{order-by-rows, cycle-by-rows}
 use Rattle.cycles.specs.Cyclic.{isCyclic, lowestCyclic}
-use Rattle.ordering.specs.Prior.{ordered, labelled, inFront, Filled}
+use Rattle.entries.specs.Front.{inFront}
+use Rattle.ordering.specs.Reported.{ordered, labelled, Filled}
 use Rattle.fingers.specs.Ready.{Ready}
 use Rattle.strategy.specs.Judge.{Parts, Covered, formulaOf, proposalOf, wordsOfOrder}
 use Rattle.strategy.proofs.Held.{parts-write, rows-are, ascend-all, chosen-rows, ready}

@@ -24,7 +24,7 @@ use Rattle.table.specs.Table.{checked, chosenIn}
 use Rattle.rows.specs.Formula.{formulaAt}
 use Rattle.written.specs.Written.{Ascend}
 use Rattle.written.specs.Tables.{formulaIn}
-use Rattle.ordering.specs.Prior.{inFront}
+use Rattle.entries.specs.Front.{inFront}
 use Rattle.verdict.specs.declared.Judged.{Judged}
 use Rattle.verdict.specs.declared.Judged.the-variants as answer
 use Rattle.verdict.specs.Verdict.{acceptedWith, answerOf}

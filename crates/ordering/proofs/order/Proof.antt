@@ -4,7 +4,7 @@ use Prim.Native.Nat.{_-_}
 use native.Mathlib.Omega.{arith}
 use mathlib.Core.Path.{refl}
 use lib.ListN.{length}
-use Rattle.ordering.specs.Prior.{ordered}
+use Rattle.ordering.specs.Reported.{ordered}
 use Rattle.ordering.specs.Placing.{Lowest, Placing}
 use Rattle.fingers.specs.Places.{graphOf}
 use Rattle.ordering.proofs.Greedy.{state-first, placing-first, state-after, not-full, placing-more, placing-done}

@@ -2,7 +2,8 @@
 use Prim.Native.Nat.{_-_}
 use native.Mathlib.Omega.{arith}
 use borrow.Author.Needs.{needs}
-use Rattle.input.proofs.BytePairs.{Putting, putting-begins, putting-goes-on, putting-ends}
+use Rattle.filling.proofs.Copies.{copy-starts}
+use Rattle.input.proofs.BytePairs.{Putting, word-put, words-in}
 use Rattle.input.proofs.words.fill_words.Statement.{statement}
 use Rattle.input.proofs.words.fill_words.Tie as tie
 
@@ -13,7 +14,7 @@ abbrev μ-loop : tie.MeasureT-loop
 μ-loop bytes words₀ count i₀ words i = count - i
 
 loop-holds : tie.Need-loop-holds Inv-loop μ-loop
-loop-holds c = putting-begins _ _ (c .before .before .pre)
+loop-holds c = copy-starts _ _ _
 
 mul-word-of : tie.Need-mul-word-of Inv-loop μ-loop
 mul-word-of c = omega arith
@@ -50,7 +51,7 @@ loop-again c =
     let lt = c .before .before .before in
     let l = lt .before in
     let s = l .before .before .before in
-    putting-goes-on _ _ (s .pre) (l .loop .inv) (lt .loop-test .taken) (c .word-of .ensures)
+    word-put _ _ (s .pre) (lt .loop-test .taken) (c .word-of .ensures) (l .loop .inv)
 
 same-length : tie.Need-same-length Inv-loop μ-loop
 same-length c = search needs
@@ -59,7 +60,7 @@ returns : tie.Need-returns Inv-loop μ-loop
 returns c =
     let l = c .before in
     let s = l .before .before .before in
-    putting-ends _ _ (s .pre) (l .loop .inv) (c .loop-test .left)
+    words-in _ _ (s .pre) (c .loop-test .left) (l .loop .inv)
 
 pub fill-words-spec : {M : Type 1} → statement M
 fill-words-spec =

@@ -1,7 +1,7 @@
 -- The counts of an accepted table fit their bits, and the answer is packed case by case.
 use mathlib.Core.Path.{sym, subst, _∙_}
 use borrow.Author.Needs.{needs}
-use Rattle.nocturenc.specs.Packed.{Answers}
+use Rattle.nocturenc.specs.Packed.{AnswerPacked}
 use Rattle.answers.proofs.Accepted.{counts-fit}
 use Rattle.nocturenc.proofs.Reading.{read-counts, read-refused}
 use Rattle.nocturenc.proofs.exported.nocturenc_judge.Statement.{statement}
@@ -26,14 +26,14 @@ returns : tie.Need-returns
 returns c =
     let e = sym (c .before .before .answer .given .1) ∙ c .before .before .before .before .judge .ensures in
     let n = c .packed-counts .result in
-    subst (λ a. Answers a n) e (read-counts _ n (counts-fit _ _ (sym e)) (c .packed-counts .ensures))
+    subst (λ a. AnswerPacked a n) e (read-counts _ n (counts-fit _ _ (sym e)) (c .packed-counts .ensures))
 
 returns-2 : tie.Need-returns-2
 returns-2 c =
     let e = sym (c .before .before .answer2 .given .1) ∙ c .before .before .before .before .judge .ensures in
     let n = c .packed-refusal .result in
     let p = c .packed-refusal .ensures in
-    subst (λ a. Answers a n) e (read-refused _ n (p .0) (p .1))
+    subst (λ a. AnswerPacked a n) e (read-refused _ n (p .0) (p .1))
 
 pub nocturenc-judge-spec : {M : Type 1} → statement M
 nocturenc-judge-spec =

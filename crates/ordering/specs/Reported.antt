@@ -1,10 +1,11 @@
 -- The reported order, over the numbers of the chosen labels (document 01, "Reported order"). `prior` is "before" in terms of rows.
 use Prim.Native.Nat.{ℕ}
-use mathlib.Core.List.{List, map, _++_}
+use mathlib.Core.List.{List, map}
 use mathlib.Core.Path.{_≡_}
 use lib.Dec.{eqb}
-use lib.ListN.{length, getD, drop}
+use lib.ListN.{length, getD}
 use Rattle.paper.specs.Order.{greedyBy}
+use Rattle.entries.specs.Front.{inFront}
 use Rattle.net.specs.Prior.{upTo, prior}
 
 -- the numbers in the reported order: all of them exactly if there is an order
@@ -14,10 +15,6 @@ ordered rows reads chosen = greedyBy (prior rows reads chosen) eqb (length chose
 -- the labels of numbers
 abbrev pub labelled : List ℕ → List ℕ → List ℕ
 labelled chosen ks = map (λ k. getD chosen k 0) ks
-
--- o in front of what was there: the first words of `lent` are those of o, the words behind them stay
-unfoldable pub inFront : List ℕ → List ℕ → List ℕ
-inFront o lent = o ++ drop (length o) lent
 
 -- What filling `out` with the reported order leaves: how many are placed, and their labels in front of what was there.
 pub record Filled (rows reads chosen out₀ out : List ℕ) (count : ℕ) : Type 0 where
