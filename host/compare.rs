@@ -4,8 +4,8 @@
 //! writes the seconds of each group to standard error, `--trace` each table before it is asked
 //! about, which shows the one at which an archive breaks off. The seed is fixed, and what is
 //! compared is decided by counts, so every run compares the same. The last line is
-//! `compare: N tables agree` with exit status 0; otherwise the first disagreement is shown and
-//! the exit status is 1.
+//! `compare: N tables agree` with exit status 0, where every refusal from 1 to 16 was met too;
+//! otherwise the first disagreement is shown and the exit status is 1.
 
 mod archive;
 mod asking;
@@ -20,7 +20,7 @@ use rng::Rng;
 use std::process::ExitCode;
 use std::time::Instant;
 use tables::cases::{self, Case};
-use tables::{damage, edges, large, many, random, typical, worst, Named, Table};
+use tables::{damage, edges, extremes, large, many, random, typical, worst, Named, Table};
 
 /// What a group of tables gave: answers to the judge request by refusal number, 0 for accepted,
 /// and how often the other requests gave 15 and 16.
@@ -153,8 +153,9 @@ impl Run {
         self.group(name, tables.len(), care, |_, i| Table::titled(&tables[i]))
     }
 
-    /// A group of tables whose answers are typed in.
-    fn cases(&mut self, name: &str, cases: Vec<Case>) -> Result<(), String> {
+    /// A group of tables whose answers are typed in: all speakers are asked for these, and then
+    /// for more, the peer by definition where a table has at most `most_branches`.
+    fn cases(&mut self, name: &str, most_branches: usize, cases: Vec<Case>) -> Result<(), String> {
         for case in &cases {
             if self.trace {
                 eprintln!("{name}, typed: {} {:?}", case.table.name, case.table.words);
@@ -162,7 +163,7 @@ impl Run {
             typed::check_case(case)?;
         }
         let care = Care {
-            most_branches: typed::MOST_BRANCHES,
+            most_branches,
             most_k: 8,
         };
         let tables: Vec<Named> = cases.into_iter().map(|case| case.table).collect();
@@ -171,9 +172,11 @@ impl Run {
 
     /// All groups; `times` multiplies the counts of random tables.
     fn all(&mut self, times: usize) -> Result<(), String> {
-        self.cases("starred cases of document 01", cases::starred())?;
-        self.cases("other cases of document 01", cases::unstarred())?;
-        self.cases("edges", edges::edges())?;
+        let any = typed::MOST_BRANCHES;
+        self.cases("starred cases of document 01", any, cases::starred())?;
+        self.cases("other cases of document 01", any, cases::unstarred())?;
+        self.cases("edges", any, edges::edges())?;
+        self.cases("extremes", 1_000, extremes::extremes())?;
         self.listed(times)?;
         self.unlisted(times)
     }
@@ -224,9 +227,11 @@ impl Run {
         })
     }
 
-    /// Every refusal that the judge request can give was met.
+    /// Every refusal that the judge request can give was met, and of the other requests 15 and 16.
     fn all_refusals_met(&self) -> Result<(), String> {
-        match (1..=14).find(|&number| self.total.judged[number] == 0) {
+        let mut met = self.total.judged;
+        (met[15], met[16]) = (self.total.too_high, self.total.too_short);
+        match (1..=16).find(|&number| met[number] == 0) {
             Some(number) => Err(format!("refusal {number} was never met")),
             None => Ok(()),
         }
@@ -246,6 +251,7 @@ fn main() -> ExitCode {
     match outcome.and_then(|()| run.all_refusals_met()) {
         Ok(()) => {
             println!("{}", run.total.line("all"));
+            println!("compare: refusals 1 to 16 were met");
             println!("compare: {} tables agree", run.total.tables);
             ExitCode::SUCCESS
         }

@@ -19,7 +19,8 @@ use std::ffi::c_void;
 use std::process::ExitCode;
 use tables::Formula::{self, And, Or};
 use tables::{
-    cases, damage, edges, exists, if_else, large, named, random, set, typical, worst, write, Named,
+    cases, damage, edges, exists, extremes, if_else, large, named, random, set, typical, worst,
+    write, Named,
 };
 
 /// The figure that the header states.
@@ -127,7 +128,12 @@ fn deepest() -> Vec<Named> {
 fn all_tables() -> Vec<Named> {
     let mut rng = Rng::new(0x7374_6163);
     let mut all = deepest();
-    for cases in [cases::starred(), cases::unstarred(), edges::edges()] {
+    for cases in [
+        cases::starred(),
+        cases::unstarred(),
+        edges::edges(),
+        extremes::extremes(),
+    ] {
         all.extend(cases.into_iter().map(|case| case.table));
     }
     all.extend(typical::typical());

@@ -3,6 +3,7 @@
 pub mod cases;
 pub mod damage;
 pub mod edges;
+pub mod extremes;
 pub mod large;
 pub mod many;
 pub mod random;

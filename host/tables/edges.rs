@@ -1,9 +1,8 @@
 //! More cases with typed answers: both sides of each check's edge, one table for each.
 
 use super::cases::{accepted, p, refused, single, Case};
-use super::large::{chosen, filled, no_reads};
 use super::Formula::{And, False, Or};
-use super::{exists, idle, if_else, set, test, wrapped, write, write_with, Formula};
+use super::{exists, idle, if_else, set, test, wrapped, write, write_with};
 
 /// All of them.
 pub fn edges() -> Vec<Case> {
@@ -13,12 +12,10 @@ pub fn edges() -> Vec<Case> {
     cases.extend(small_rows());
     cases.extend(reads());
     cases.extend(order_of_checks());
-    cases.extend(full_counts());
     cases.extend(strategies());
     cases.extend(faulty_strategies());
     cases.extend(orders());
     cases.extend(rings());
-    cases.extend(wide_reads());
     cases
 }
 
@@ -207,28 +204,6 @@ fn order_of_checks() -> Vec<Case> {
     ]
 }
 
-/// Every count at its limit, and depth at its limit.
-fn full_counts() -> Vec<Case> {
-    let all_variables: Vec<usize> = (0..1_024).collect();
-    let all_labels: Vec<u16> = (0..4_096).collect();
-    let readers = filled(vec![test(&all_variables); 8], 4_096);
-    let wide = filled(chosen(0, 1_024, no_reads), 4_096);
-    let odd: Vec<u16> = (0..1_024).map(|i| 2 * i + 1).collect();
-    let keep: Vec<u16> = odd.iter().copied().chain(2_049..4_096).collect();
-    let counts = [1_024, 4_096, 1_024, 1];
-    let deep = |count: usize, formula: Formula| write(1, &wrapped(count, formula));
-    let longest = write_with(1_024, &readers, &all_labels);
-    let deep_guard = deep(63, exists(&[], test(&[])));
-    vec![
-        refused("29,700 words", longest, 10, 0),
-        refused("nothing chosen", write(1_024, &readers), 11, 0),
-        single("1,024 variables", write(1_024, &wide), counts, &odd, &keep),
-        refused("a test at depth 64", deep(63, test(&[])), 11, 0),
-        refused("a test at depth 65", deep(64, test(&[])), 8, 64),
-        refused("a guard at depth 65", deep_guard, 8, 64),
-    ]
-}
-
 /// Accepted strategies, their transitions and their kept labels.
 fn strategies() -> Vec<Case> {
     let with_false = And(vec![set(0, &[]), Or(vec![False, test(&[])])]);
@@ -269,24 +244,6 @@ fn faulty_strategies() -> Vec<Case> {
         refused("12 before 13", write(2, &ring_and_two), 12, 1),
         refused("13 before 14", write(17, &And(ring_and_many)), 13, 4),
     ]
-}
-
-/// 300 variables, of which the first reads number 256 and number 299 reads number 43: positions
-/// that a byte can't hold apart from 0 and 43.
-fn wide_reads() -> Vec<Case> {
-    let reads = |variable: usize| match variable {
-        0 => vec![256],
-        299 => vec![43],
-        _ => Vec::new(),
-    };
-    let wide = And(chosen(0, 300, reads));
-    let odd: Vec<u16> = (0..300).map(|i| 2 * i + 1).collect();
-    let mut order: Vec<u16> = odd[1..=256].to_vec();
-    order.push(1);
-    order.extend(&odd[257..]);
-    let name = "reads beyond a byte";
-    let counts = [300, 601, 300, 1];
-    vec![single(name, write(300, &wide), counts, &order, &odd)]
 }
 
 /// Orders that differ from the labels' own.
