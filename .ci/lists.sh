@@ -36,3 +36,8 @@ refused_listed() {
         lists_as "target/host/${file%% *}" target/host/wanted || return 1
     done
 }
+
+# Every example, the longest tables, files and listings, random and damaged tables: the lister prints what a peer prints by itself.
+listed_alike() {
+    rustc -O --edition 2021 host/lists.rs -o target/host/lists && target/host/lists target/bin/lister target/host/listed.table examples/*.table
+}

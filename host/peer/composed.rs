@@ -11,21 +11,15 @@ use cover::ByVariable;
 use order::Before;
 
 /// A judged table: the reported order and for each row the number of distinct keys.
-struct Judged<'a> {
+pub struct Judged<'a> {
     table: Table<'a>,
     chosen_below: Vec<u16>,
-    order: Vec<u16>,
+    pub order: Vec<u16>,
     keys: Vec<u32>,
 }
 
 pub fn judge(words: &[u16]) -> Result<Counts, Refusal> {
-    let judged = judged(words)?;
-    Ok(Counts {
-        variables: judged.table.variables,
-        rows: judged.table.rows.len(),
-        chosen: judged.table.strategy.len(),
-        transitions: judged.keys[0] as usize,
-    })
+    Ok(judged(words)?.counts())
 }
 
 pub fn order(words: &[u16], out: &mut [u16]) -> Result<usize, Refusal> {
@@ -50,23 +44,16 @@ pub fn transition(words: &[u16], k: usize, out: &mut [u8]) -> Result<usize, Refu
 
 pub fn assignments(words: &[u16], k: usize, out: &mut [u16]) -> Result<usize, Refusal> {
     let judged = judged(words)?;
-    let kept = judged.kept(k)?;
-    let needed = judged.table.variables;
-    let Some(place) = out.get_mut(..needed) else {
-        return refuse(16, needed);
+    let assigned = judged.assigned(&judged.kept(k)?);
+    let Some(place) = out.get_mut(..assigned.len()) else {
+        return refuse(16, assigned.len());
     };
-    let in_key = judged
-        .order
-        .iter()
-        .filter(|&&label| kept[label as usize] == 1);
-    for (word, &label) in place.iter_mut().zip(in_key) {
-        *word = label;
-    }
-    Ok(needed)
+    place.copy_from_slice(&assigned);
+    Ok(assigned.len())
 }
 
 /// Refusals 1 to 14.
-fn judged(words: &[u16]) -> Result<Judged<'_>, Refusal> {
+pub fn judged(words: &[u16]) -> Result<Judged<'_>, Refusal> {
     let table = check::table(words)?;
     let is_candidate = |label: u16| table.rows[label as usize].kind == CANDIDATE;
     if let Some(&label) = table.strategy.iter().find(|&&label| !is_candidate(label)) {
@@ -125,23 +112,33 @@ fn count_keys(table: &Table, chosen_below: &[u16], label: usize, keys: &mut [u32
 }
 
 impl Judged<'_> {
+    pub fn counts(&self) -> Counts {
+        Counts {
+            variables: self.table.variables,
+            rows: self.table.rows.len(),
+            chosen: self.table.strategy.len(),
+            transitions: self.keys[0] as usize,
+        }
+    }
+
     /// The marks of transition k, or refusal 15 or 18.
-    fn kept(&self, k: usize) -> Result<Vec<u8>, Refusal> {
+    pub fn kept(&self, k: usize) -> Result<Vec<u8>, Refusal> {
         let count = self.keys[0] as usize;
         if k >= count {
             return refuse(15, count);
         }
         let mut kept = vec![0; self.table.rows.len()];
         self.keep(0, k as u32, &mut kept);
-        let chosen = self
-            .order
-            .iter()
-            .filter(|&&label| kept[label as usize] == 1)
-            .count();
-        if chosen != self.table.variables {
+        if self.assigned(&kept).len() != self.table.variables {
             return refuse(18, k);
         }
         Ok(kept)
+    }
+
+    /// The chosen labels among those kept, in reported order.
+    pub fn assigned(&self, kept: &[u8]) -> Vec<u16> {
+        let is_kept = |label: &u16| kept[*label as usize] == 1;
+        self.order.iter().copied().filter(is_kept).collect()
     }
 
     /// Marks the leaves that key number `k` of a row keeps. A conjunction's first child counts
