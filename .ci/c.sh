@@ -32,25 +32,9 @@ browser_built() {
     cc -std=c99 "${strict[@]}" "${watched[@]}" host/browser/*.c "$archive_for_c" -o target/host/browser-watched
 }
 
-# The browser shows every example and its first transition, and says of each what its listing says.
+# The browser shows what is stored, and of every example and each of its transitions what the table and the listing say.
 browser_shows() {
-    local table verdict status seen=0
-    for table in examples/*.table; do
-        [ -f "$table" ] || continue
-        verdict=$(head -n 1 "${table%.table}.listing" | cut -d ' ' -f 1)
-        for k in '' 0; do
-            target/host/browser-watched "$table" ${k:+"$k"} > target/host/browser.out
-            status=$?
-            case $status:$verdict in 0:accepted | 1:refused) ;; *)
-                echo "browser: $table $k: status $status, and its listing says: $verdict"
-                return 1
-                ;;
-            esac
-        done
-        seen=$((seen + 1))
-    done
-    echo "browser: $seen examples shown"
-    [ "$seen" -gt 0 ]
+    python3 .ci/displays.py target/host/browser-watched
 }
 
 # The browser's own files with another main, which hands it damaged examples by the thousand, with names beside them.
