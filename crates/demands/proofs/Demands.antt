@@ -182,7 +182,7 @@ module _ (words : List ℕ) (a : Accepted) (e : judgedOf words ≡ judged.Accept
   }
 
   is-order : OrderOf (before f A) A (reported words l)
-  is-order = reported-is-order (l .variables) f A (known .well-formed) (strategic .acyclic)
+  is-order = reported-is-order (l .variables) f A (strategic .acyclic)
 
   ordered-many : length (map (λ i. i .0) (reported words l)) ≡ l .chosen
   ordered-many =

@@ -191,7 +191,7 @@ mutual
       apart-either p (labels f) (labelsOf fs) r (branches f) (ofAny fs) (branch-sub f) (any-sub fs)
       (apart p f rf) (apart-any q fs rg) (filled f) (filled-any fs)
 
-pub branches-are-minimal-models : (f : Formula) → Rising 0 (labels f) → BranchesAreMinimalModels f
+pub branches-are-minimal-models : (f : Formula) → BranchesAreMinimalModels f
 branches-are-minimal-models f r = record {
   each = λ b t. record {
     model = branch-models f b t;

@@ -125,12 +125,12 @@ module _ (#V : ℕ) (f : Formula) (A : List Label) (wf : WellFormed #V f) (cover
       set-is = λ v. refl;
     }
 
-  -- one order for the whole formula
-  pub carried-out : CarriedOut #V f A
-  carried-out o r b t = carried b t A (λ l h. h) (λ l h k. k) o r
-
   -- an order for the transition of the branch alone
   pub carried-by-key : (b : List Label) → List·Memᴰ b (branches f) → (o : List Label) → OrderOf (before f (key A b)) (key A b) o → Carried #V f unset o
   carried-by-key b t o r =
       subst (Carried #V f unset) (those-all (has b) o (λ l u. those-has (has A) b l (r .from l (mem-has u)) .0))
       (carried b t (key A b) (λ l h. those-has (has A) b l h .1) (has-those (has A) b) o r)
+
+-- one order for the whole formula
+pub carried-out : (#V : ℕ) (f : Formula) (A : List Label) → CarriedOut #V f A
+carried-out #V f A wf cover o r b t = carried #V f A wf cover b t A (λ l h. h) (λ l h k. k) o r

@@ -13,7 +13,7 @@ use lib.Dec.{eqb, ltb}
 use borrow.Author.Tests.{ne-eqb, lt-ltb, not-false}
 use Rattle.paper.specs.Lists.{anyOf, howMany, pairs}
 use Rattle.paper.specs.Formula.{Label, Variable, Candidate, same, alike, has, labels, labelsOf, candidates, candidatesOf, assigns, Rising}
-use Rattle.paper.specs.Formula.{WellFormed, Formula, Formulas, FALSE, test, candidate, conjunction, disjunction, exists, IF, only, _⨾_}
+use Rattle.paper.specs.Formula.{Formula, Formulas, FALSE, test, candidate, conjunction, disjunction, exists, IF, only, _⨾_}
 use Rattle.paper.specs.Branch.{branches}
 use Rattle.paper.specs.Judgement.{variables}
 use Rattle.paper.specs.Structure.Cover.{Cover, cover, leafCover, unitCover, joinCover, coverReading, coverOf}
@@ -198,7 +198,7 @@ module _ (f : Formula) (A : List Label) (v : Variable) where
       none : (l : Label) → assigns f v l ≡ false → over chosen ((l ∷ []) ∷ []) ≡ leafCover false
       none l e = over-leaf chosen l ∙ ap leafCover (ap (λ t. has A l && t) e ∙ and-false (has A l))
 
-pub counts-say : (#V : ℕ) (f : Formula) (A : List Label) → WellFormed #V f → CountsSay #V f A
+pub counts-say : (#V : ℕ) (f : Formula) (A : List Label) → CountsSay #V f A
 counts-say #V f A w v below =
     let covered = cover-of-branches f A v (w .rising) in
     let always = ap (λ c. c .always) covered in

@@ -7,6 +7,7 @@ use mathlib.Core.Logic.{_⊎_, inl, inr, _↔_}
 use mathlib.Core.List.{List, [], _∷_}
 use Rattle.paper.specs.Formula.{Label, same, has}
 use Rattle.paper.specs.Order.{Acyclic, Chain, link, _then_, leads, onCycle}
+use Rattle.paper.specs.Statements.{Between}
 use Rattle.paper.proofs.Bools.{or-left, or-right, or-cases, both, and-left, and-right, pick}
 use Rattle.paper.proofs.Labels.{same-eq}
 
@@ -54,7 +55,7 @@ module _ (R : Label → Label → Bool) where
   chain-within S sub tr (link {i = i} {j = j} h) = sub i j h
   chain-within S sub tr (_then_ {i = i} {j = j} {k = k} h c) = tr i j k (sub i j h) (chain-within S sub tr c)
 
-module _ (R : Label → Label → Bool) (A : List Label) (between : (i j : Label) → R i j ≡ true → (has A i ≡ true) × (has A j ≡ true)) where
+module _ (R : Label → Label → Bool) (A : List Label) (between : Between R A) where
   pub chain-starts : {i j : Label} → Chain R i j → has A i ≡ true
   chain-starts (link {i = i} {j = j} h) = between i j h .0
   chain-starts (_then_ {i = i} {j = j} h c) = between i j h .0

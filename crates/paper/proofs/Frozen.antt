@@ -179,7 +179,7 @@ module _ (F : Label → Variable → Bool) where
     covered-under l g (f ⨾ fs) c row =
         each-append _ (sitesUnder g f) (sitesOf g fs) (covered g f (c .1) (λ v h. c .0 v (row v h))) (covered-under l g fs (c .2) row)
 
-pub frozen-is-least : (f : Formula) → Rising 0 (labels f) → FrozenIsLeast f
+pub frozen-is-least : (f : Formula) → FrozenIsLeast f
 frozen-is-least f r = record {
   solves = constrained (frozen f) [] f (to-each _ (sites f) (frozen-at-site f r));
   least = λ F c l v h.

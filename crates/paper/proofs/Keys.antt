@@ -116,9 +116,6 @@ module _ (#V : ℕ) (f : Formula) (A : List Label) (formed : WellFormed #V f) (h
       one : (l : Label) → has A l ≡ true → howMany (λ v. assigns f v l) (variables #V) ≡ 1
       one l h = let (w, k, e) = variable-of l h in howMany-same (λ v. assigns f v l) (λ v. alike v w) (variables #V) (λ v u. e v) ∙ variable-one #V w k
 
-  pub keys-have-length : KeyLength #V f A
-  keys-have-length k t = let (b, u, e) = keys-are-listed f A .from k t in ap length e ∙ key-length b u
-
   -- a branch within the kept labels of a class is of that class
   pub within : (b c : List Label) → List·Memᴰ b (branches f) → List·Memᴰ c (branches f) → Part (has b) (isKept f A (key A c)) → key A b ≡ key A c
   within b c t u inside =
@@ -150,6 +147,10 @@ module _ (#V : ℕ) (f : Formula) (A : List Label) (formed : WellFormed #V f) (h
     where
       others : (j : List Label) → List·Memᴰ j (keys f A) → Part (has b) (isKept f A j) → j ≡ key A b
       others j u inside = let (c, s, e) = keys-are-listed f A .from j u in e ∙ sym (within b c t s (subst (λ z. Part (has b) (isKept f A z)) e inside))
+
+pub keys-have-length : (#V : ℕ) (f : Formula) (A : List Label) → KeyLength #V f A
+keys-have-length #V f A formed homogeneous minimal k t =
+    let (b, u, e) = keys-are-listed f A .from k t in ap length e ∙ key-length #V f A formed homogeneous minimal b u
 
 -- Proposition 8 within a class: the branch found lies within the union of the selection, so within the class's kept labels
 pub same-class : (m : Meaning) (xs : List ℕ) (f : Formula)

@@ -1,3 +1,5 @@
+-- the examples first: where a definition is changed, they say so before the theorems do
+pub mod Examples
 pub mod Bools
 pub mod Lists
 pub mod Outcome

@@ -13,15 +13,14 @@ use lib.ListN.{length, getD, length-append, List·getD-append}
 use lib.Seq.{getD-append-add}
 use borrow.Author.Tests.{ltb-true, ltb-false, ne-eqb}
 use Rattle.paper.specs.Lists.{pairs}
-use Rattle.paper.specs.Formula.{Label, same, has, labels, labelsOf, Rising, WellFormed, Formula, Formulas}
+use Rattle.paper.specs.Formula.{Label, same, has, labels, labelsOf, Rising, Formula, Formulas}
 use Rattle.paper.specs.Formula.{FALSE, test, candidate, conjunction, disjunction, exists, IF, only, _⨾_}
 use Rattle.paper.specs.Branch.{branches, ofEach, ofAny}
-use Rattle.paper.specs.Strategy.{Homogeneous, MinimalCovering}
 use Rattle.paper.specs.Transition.{key, keys, isLower, isKept}
 use Rattle.paper.specs.Structure.Reading.{readAll}
 use Rattle.paper.specs.Structure.KeyCount.{KeyCount, keyCount, number, leafKeys, unitKeys, joinKeys, keyReading, keyCountOf, numberOf, numberOfEach}
 use Rattle.paper.specs.Structure.Kept.{keptAt, keptEach, keptAny, keptAll}
-use Rattle.paper.specs.Statements.{NumbersSay}
+use Rattle.paper.specs.Statements.{KeysSay}
 use Rattle.paper.proofs.Bools.{pick}
 use Rattle.paper.proofs.Lists.{any-append, to-pairs}
 use Rattle.paper.proofs.Labels.{rising-ext, rising-split, branch-sub, any-sub}
@@ -357,7 +356,7 @@ module _ (A : List Label) where
     all-kept-sub (only f) = part-any f (kept-sub f 0)
     all-kept-sub (f ⨾ fs) = Sublistᴰ·append (part-any f (kept-sub f 0)) (all-kept-sub fs)
 
-pub numbers-say : (#V : ℕ) (f : Formula) (A : List Label) → WellFormed #V f → Homogeneous f A → MinimalCovering #V f A → NumbersSay #V f A
+pub numbers-say : (#V : ℕ) (f : Formula) (A : List Label) → KeysSay #V f A
 numbers-say #V f A formed homogeneous minimal = record { count = sym (n .numbers); kth-key = same-key; kth-kept = n .keeps }
   where
     n : Numbered A #V (branches f) (keyCountOf A f) (keptAt A f)

@@ -14,7 +14,7 @@ use Rattle.paper.specs.Formula.{Label, same, has, Formula}
 use Rattle.paper.specs.BoolForm.{Part}
 use Rattle.paper.specs.Before.{before}
 use Rattle.paper.specs.Order.{Acyclic, isReady, greedy, order, Chain, leads, Respects, Once, OrderOf}
-use Rattle.paper.specs.Statements.{OrderExists, ReportedIsOrder}
+use Rattle.paper.specs.Statements.{Between, OrderExistsExactly, ReportedIsOrder}
 use Rattle.paper.proofs.Bools.{or-left, or-right, or-cases, and-left, and-right, not-so, pick}
 use Rattle.paper.proofs.Lists.{to-any, of-any, of-none, those-lt}
 use Rattle.paper.proofs.Labels.{same-refl, same-eq, has-head, has-mem, mem-has, has-those, those-has}
@@ -66,7 +66,7 @@ module _ (R : Label → Label → Bool) where
   nothing-placed : (done left : List Label) → Placed done left []
   nothing-placed done left = record { respects = tt; once = tt; from = λ l h. absurd (false≢true h) }
 
-  module _ (A : List Label) (between : (i j : Label) → R i j ≡ true → (has A i ≡ true) × (has A j ≡ true)) where
+  module _ (A : List Label) (between : Between R A) where
     -- each label of A is done or left
     abbrev Parted : List Label → List Label → Type 0
     Parted done left = (l : Label) → has A l ≡ true → (has done l ≡ true) ⊎ (has left l ≡ true)
@@ -198,7 +198,7 @@ module _ (R : Label → Label → Bool) where
           at true c = inr k
           at false c = c
 
-  module _ (A : List Label) (between : (i j : Label) → R i j ≡ true → (has A i ≡ true) × (has A j ≡ true)) where
+  module _ (A : List Label) (between : Between R A) where
     pub order-acyclic : (o : List Label) → OrderOf R A o → Acyclic R A
     order-acyclic o r = record {
       _≺_ = earlier o;
@@ -214,7 +214,7 @@ module _ (R : Label → Label → Bool) where
     acyclic-placed : Acyclic R A → Part (has A) (has (order R A))
     acyclic-placed a = all-placed R A between (acyclic-no-cycle R A between a)
 
-pub order-exists : (R : Label → Label → Bool) (A : List Label) → ((i j : Label) → R i j ≡ true → (has A i ≡ true) × (has A j ≡ true)) → OrderExists R A
+pub order-exists : (R : Label → Label → Bool) (A : List Label) → OrderExistsExactly R A
 order-exists R A between = record {
   placed = (acyclic-placed R A between, placed-acyclic R A between);
   no-cycle = (acyclic-no-cycle R A between, λ free. placed-acyclic R A between (all-placed R A between free));
@@ -222,8 +222,8 @@ order-exists R A between = record {
 }
 
 -- "before" is a relation between labels of A
-pub before-between : (f : Formula) (A : List Label) (i j : Label) → before f A i j ≡ true → (has A i ≡ true) × (has A j ≡ true)
+pub before-between : (f : Formula) (A : List Label) → Between (before f A) A
 before-between f A i j h = (and-left (has A i) _ h, and-left (has A j) _ (and-right (has A i) _ h))
 
-pub reported-is-order : (#V : ℕ) (f : Formula) (A : List Label) → Acyclic (before f A) A → ReportedIsOrder #V f A
+pub reported-is-order : (#V : ℕ) (f : Formula) (A : List Label) → ReportedIsOrder #V f A
 reported-is-order #V f A a = order-of (before f A) A (before-between f A) (acyclic-placed (before f A) A (before-between f A) a)

@@ -1,17 +1,17 @@
--- The theorems of document 001, each statement of specs/Statements.antt under the premises that it needs. The proofs stand in
--- the files named here; `WellFormed #V f` is what a table's rows give (labels ascend in preorder, variables lie below #V).
+-- The theorems of document 001: each proves a statement of specs/Statements.antt, and asks nothing beside it. The proofs stand in
+-- the files named here.
 use Prim.Native.Nat.{ℕ}
 use mathlib.Core.Path.{refl}
+use mathlib.Core.Bool.{Bool}
 use mathlib.Core.List.{List, [], _∷_}
-use Rattle.paper.specs.Formula.{Label, Formula, WellFormed}
+use Rattle.paper.specs.Formula.{Label, Formula}
 use Rattle.paper.specs.Before.{before}
-use Rattle.paper.specs.Order.{Acyclic}
-use Rattle.paper.specs.Strategy.{Homogeneous, MinimalCovering, Strategy}
+use Rattle.paper.specs.Strategy.{Strategy}
 use Rattle.paper.specs.Meaning.{Meaning}
 use Rattle.paper.specs.Cases.{P, numbered}
 use Rattle.paper.specs.Statements.{BranchesAreMinimalModels, FrozenIsLeast, Proposition5, Proposition6, Proposition7, Proposition8, Theorem2}
-use Rattle.paper.specs.Statements.{AcceptedExactly, AcceptedOnlySo, Refusal13, OrderExists, KeysAreListed, KeyLength, CarriedOut, ReportedIsOrder}
-use Rattle.paper.specs.Statements.{CountsSay, SharingSays, NumbersSay}
+use Rattle.paper.specs.Statements.{AcceptedExactly, AcceptedOnlySo, Refusal13, OrderExists, OrderExistsExactly, KeysAreListed, KeyLength}
+use Rattle.paper.specs.Statements.{CarriedOut, ReportedIsOrder, CountsSay, SharingSays, KeysSay}
 use Rattle.paper.proofs.BoolForm.{branches-are-minimal-models}
 use Rattle.paper.proofs.Frozen.{frozen-is-least}
 use Rattle.paper.proofs.Truth as Truth
@@ -24,14 +24,13 @@ use Rattle.paper.proofs.Cover as Cover
 use Rattle.paper.proofs.Share as Share
 use Rattle.paper.proofs.Numbers as Numbers
 
-module _ (#V : ℕ) (f : Formula) (wf : WellFormed #V f) where
-  -- 1
-  pub branches-are-models : BranchesAreMinimalModels f
-  branches-are-models = branches-are-minimal-models f (wf .rising)
+-- 1
+pub branches-are-models : (f : Formula) → BranchesAreMinimalModels f
+branches-are-models = branches-are-minimal-models
 
-  -- 2
-  pub frozen-sets-are-least : FrozenIsLeast f
-  frozen-sets-are-least = frozen-is-least f (wf .rising)
+-- 2
+pub frozen-sets-are-least : (f : Formula) → FrozenIsLeast f
+frozen-sets-are-least = frozen-is-least
 
 -- 3
 module _ (m : Meaning) (xs : List ℕ) (f : Formula) where
@@ -50,8 +49,18 @@ module _ (m : Meaning) (xs : List ℕ) (f : Formula) where
   pub theorem2 : (A : List Label) → Theorem2 m xs f A
   theorem2 = Truth.theorem2 m xs f
 
--- 4
+-- 4 and 5, for orders and keys
+pub order-exists-exactly : (R : Label → Label → Bool) (A : List Label) → OrderExistsExactly R A
+order-exists-exactly = Order.order-exists
+
+pub order-exists : (f : Formula) (A : List Label) → OrderExists (before f A) A
+order-exists f A = Order.order-exists (before f A) A (Order.before-between f A)
+
+pub keys-listed : (f : Formula) (A : List Label) → KeysAreListed f A
+keys-listed = keys-are-listed
+
 module _ (#V : ℕ) (f : Formula) (A : List Label) where
+  -- 4
   pub accepted-exactly : AcceptedExactly #V f A
   accepted-exactly = Judgement.accepted-exactly #V f A
 
@@ -61,34 +70,27 @@ module _ (#V : ℕ) (f : Formula) (A : List Label) where
   pub refusal-13 : Refusal13 #V f A
   refusal-13 = Judgement.refusal-13 #V f A
 
-  pub order-exists : OrderExists (before f A) A
-  order-exists = Order.order-exists (before f A) A (Order.before-between f A)
-
--- 5
-pub keys-listed : (f : Formula) (A : List Label) → KeysAreListed f A
-keys-listed = keys-are-listed
-
-module _ (#V : ℕ) (f : Formula) (A : List Label) (wf : WellFormed #V f) where
-  pub key-length : Homogeneous f A → MinimalCovering #V f A → KeyLength #V f A
-  key-length = Keys.keys-have-length #V f A wf
+  -- 5
+  pub key-length : KeyLength #V f A
+  key-length = Keys.keys-have-length #V f A
 
   -- 6
-  pub carried-out : MinimalCovering #V f A → CarriedOut #V f A
-  carried-out = Carry.carried-out #V f A wf
+  pub carried-out : CarriedOut #V f A
+  carried-out = Carry.carried-out #V f A
 
-  pub reported-is-order : Acyclic (before f A) A → ReportedIsOrder #V f A
+  pub reported-is-order : ReportedIsOrder #V f A
   reported-is-order = Order.reported-is-order #V f A
 
   -- 7
   pub counts-say : CountsSay #V f A
-  counts-say = Cover.counts-say #V f A wf
+  counts-say = Cover.counts-say #V f A
 
   pub sharing-says : SharingSays #V f A
   sharing-says = Share.sharing-says #V f A
 
-  pub numbers-say : Homogeneous f A → MinimalCovering #V f A → NumbersSay #V f A
-  numbers-say = Numbers.numbers-say #V f A wf
+  pub numbers-say : KeysSay #V f A
+  numbers-say = Numbers.numbers-say #V f A
 
--- a strategy: the listing's (the premises above can be met)
+-- a strategy: the listing's (what the statements ask can be met)
 pub listing-strategy : Strategy 2 P (numbered (1 ∷ 4 ∷ 6 ∷ []))
 listing-strategy = Judgement.accepted-exactly 2 P (numbered (1 ∷ 4 ∷ 6 ∷ [])) .0 refl .0

@@ -12,5 +12,6 @@ pub mod Meaning
 pub mod Carry
 pub mod Judgement
 pub mod Structure
+pub mod Examples
 pub mod Statements
 pub mod Cases

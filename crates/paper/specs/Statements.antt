@@ -1,6 +1,6 @@
--- What is proved of the definitions, as statements to be read without their proofs; proofs/Theorems.antt proves each.
--- docs/PROMISES.md lists them with their theorems. Most ask for a formula as a table gives it (`WellFormed`); the labels of a
--- proposal A ascend in a table, and where that matters the statement says so.
+-- What is proved of the definitions, as statements to be read without their proofs; proofs/Theorems.antt proves each, and
+-- docs/PROMISES.md lists them with their theorems. Each statement stands alone: what it asks of the formula, of the number of
+-- variables and of the proposal A stands in its own type, and a theorem adds nothing to it.
 use Prim.Native.Nat.{ℕ, _<_, _≤_}
 use mathlib.Core.Bool.{Bool, true, false, _||_}
 use mathlib.Core.Path.{_≡_}
@@ -14,7 +14,7 @@ use Rattle.paper.specs.BoolForm.{MinimalModel}
 use Rattle.paper.specs.Frozen.{frozen, Constrained}
 use Rattle.paper.specs.Before.{before, shareBranch}
 use Rattle.paper.specs.Order.{Acyclic, order, Chain, onCycle, OrderOf}
-use Rattle.paper.specs.Strategy.{Strategy}
+use Rattle.paper.specs.Strategy.{Homogeneous, MinimalCovering, Strategy}
 use Rattle.paper.specs.Transition.{sliceBy, key, isLower, class, isKept, keys, transitions}
 use Rattle.paper.specs.Meaning.{Meaning, True}
 use Rattle.paper.specs.Carry.{Carried, unset}
@@ -24,15 +24,22 @@ use Rattle.paper.specs.Structure.KeyCount.{numberOf}
 use Rattle.paper.specs.Structure.Kept.{keptAt}
 use Rattle.paper.specs.Structure.Share.{someHolds}
 
--- 1. Branches as document 01 reads them are exactly the minimal models of boolForm, the paper's own definition.
-pub record BranchesAreMinimalModels (f : Formula) : Type 0 where
+-- 1. Branches as document 01 reads them are exactly the minimal models of boolForm, the paper's own definition, where labels
+-- ascend in preorder, as a table's do.
+pub record ListsMinimalModels (f : Formula) : Type 0 where
   pub each : (b : List Label) → List·Memᴰ b (branches f) → MinimalModel f (has b)
   pub all : (S : Label → Bool) → MinimalModel f S → (b : List Label) × List·Memᴰ b (branches f) × ((l : Label) → S l ≡ has b l)
 
--- 2. Frozen sets are the least solution of Table 1's constraints.
-pub record FrozenIsLeast (f : Formula) : Type 0 where
+abbrev pub BranchesAreMinimalModels : Formula → Type 0
+BranchesAreMinimalModels f = Rising 0 (labels f) → ListsMinimalModels f
+
+-- 2. Frozen sets are the least solution of Table 1's constraints, where labels ascend in preorder.
+pub record LeastSolution (f : Formula) : Type 0 where
   pub solves : Constrained (frozen f) f
   pub least : (F : Label → Variable → Bool) → Constrained F f → (l : Label) (v : Variable) → frozen f l v ≡ true → F l v ≡ true
+
+abbrev pub FrozenIsLeast : Formula → Type 0
+FrozenIsLeast f = Rising 0 (labels f) → LeastSolution f
 
 -- 3. Propositions 5 to 8 and Theorem 2 of document 001, under every meaning m and values xs of the bound variables around.
 module _ (m : Meaning) (xs : List ℕ) (f : Formula) where
@@ -80,13 +87,20 @@ module _ (#V : ℕ) (f : Formula) (A : List Label) where
   Refusal13 = Rising 0 A → (place : ℕ) → judge #V f A ≡ refused 13 place → LowestOnCycle place
 
 -- An order exists exactly if the greedy order places every label, exactly if there is no cycle, exactly if the test finds
--- none. R is a relation between labels of A.
+-- none: for any relation R between labels of A, as "before" is.
 pub record OrderExists (R : Label → Label → Bool) (A : List Label) : Type 0 where
   pub placed : Acyclic R A ↔ ((l : Label) → has A l ≡ true → has (order R A) l ≡ true)
   pub no-cycle : Acyclic R A ↔ ((l : Label) → Chain R l l → ⊥)
   pub tested : (l : Label) → (onCycle R A l ≡ true) ↔ Chain R l l
 
--- 5. Keys: strictly ascending, so each once; exactly the branches' keys; each of #V labels where the proposal is a covering.
+abbrev pub Between : (Label → Label → Bool) → List Label → Type 0
+Between R A = (i j : Label) → R i j ≡ true → (has A i ≡ true) × (has A j ≡ true)
+
+abbrev pub OrderExistsExactly : (Label → Label → Bool) → List Label → Type 0
+OrderExistsExactly R A = Between R A → OrderExists R A
+
+-- 5. Keys: strictly ascending, so each once; exactly the branches' keys; each of #V labels where the proposal is a minimal
+-- covering by candidates.
 abbrev pub Ascending : List (List Label) → Type 0
 Ascending [] = Unit {0}
 Ascending (k ∷ ks) = ((j : List Label) → List·Memᴰ j ks → isLower k j ≡ true) × Ascending ks
@@ -97,16 +111,18 @@ pub record KeysAreListed (f : Formula) (A : List Label) : Type 0 where
   pub onto : (b : List Label) → List·Memᴰ b (branches f) → List·Memᴰ (key A b) (keys f A)
 
 abbrev pub KeyLength : ℕ → Formula → List Label → Type 0
-KeyLength #V f A = (k : List Label) → List·Memᴰ k (keys f A) → length k ≡ #V
+KeyLength #V f A = WellFormed #V f → Homogeneous f A → MinimalCovering #V f A → (k : List Label) → List·Memᴰ k (keys f A) → length k ≡ #V
 
--- 6. Demand 3, first half: the chosen labels of any branch are carried out by any order of A that respects "before",
--- and the reported order is one.
+-- 6. Demand 3, first half: the chosen labels of any branch are carried out by any order of A that respects "before", where A is
+-- a minimal covering; and where there is such an order, the reported order is one.
 module _ (#V : ℕ) (f : Formula) (A : List Label) where
   abbrev pub CarriedOut : Type 0
-  CarriedOut = (o : List Label) → OrderOf (before f A) A o → (b : List Label) → List·Memᴰ b (branches f) → Carried #V f unset (those (has b) o)
+  CarriedOut =
+      WellFormed #V f → MinimalCovering #V f A → (o : List Label) → OrderOf (before f A) A o
+      → (b : List Label) → List·Memᴰ b (branches f) → Carried #V f unset (those (has b) o)
 
   abbrev pub ReportedIsOrder : Type 0
-  ReportedIsOrder = OrderOf (before f A) A (order (before f A) A)
+  ReportedIsOrder = Acyclic (before f A) A → OrderOf (before f A) A (order (before f A) A)
 
 -- 7. The forms over the structure are what the branches say.
 module _ (#V : ℕ) (f : Formula) (A : List Label) where
@@ -115,13 +131,16 @@ module _ (#V : ℕ) (f : Formula) (A : List Label) where
     pub doubled : List·Memᴰ v (doubled #V f A) ↔ (coverOf A v f .twice ≡ true)
 
   abbrev pub CountsSay : Type 0
-  CountsSay = (v : Variable) → v .0 < #V → CoverSays v
+  CountsSay = WellFormed #V f → (v : Variable) → v .0 < #V → CoverSays v
 
   abbrev pub SharingSays : Type 0
   SharingSays = (i j : Label) → shareBranch f i j ≡ someHolds f (i ∷ j ∷ [])
 
-  -- of a minimal covering
   pub record NumbersSay : Type 0 where
     pub count : length (keys f A) ≡ numberOf A f
     pub kth-key : (k : ℕ) → k < length (keys f A) → getD (keys f A) k [] ≡ key A (keptAt A f k)
     pub kth-kept : (k : ℕ) → k < length (keys f A) → (l : Label) → isKept f A (getD (keys f A) k []) l ≡ has (keptAt A f k) l
+
+  -- of a minimal covering by candidates
+  abbrev pub KeysSay : Type 0
+  KeysSay = WellFormed #V f → Homogeneous f A → MinimalCovering #V f A → NumbersSay

@@ -31,7 +31,7 @@ use Rattle.keys.specs.Keys.{total, keysAt}
 use Rattle.keys.proofs.KeyNumbers.{keys-number-within}
 use Rattle.transitions.specs.Kept.{Keepable}
 use Rattle.transitions.specs.Assigned.{keptOf}
-use Rattle.transitions.specs.Statements.{kthKey, kthBytes, TransitionSays}
+use Rattle.transitions.specs.Statements.{kthKey, kthBytes, TransitionSays, EachTransitionSays}
 use Rattle.transitions.proofs.MarkedBytes.{bytes-same}
 use Rattle.transitions.proofs.Words.{those-same, kept-labels, as-many-ordered}
 
@@ -62,8 +62,8 @@ module _ (#V : ℕ) (f : Formula) (A : List Label) (formed : WellFormed #V f) (h
       same-answer (has kept l) (has b l) (λ i. of-key A b l (subst (λ j. has j l ≡ true) (sym one-key) (to-key A kept l i a)) .0)
       (λ i. of-key A kept l (subst (λ j. has j l ≡ true) one-key (to-key A b l i a)) .0)
 
-  pub transition-says : TransitionSays #V f A k
-  transition-says = record {
+  kth-says : TransitionSays #V f A k
+  kth-says = record {
     marks-are = bytes-same (λ l. sym (says .kth-kept k h l));
     chosen-are = λ n chosen e below. kept-labels (has kept) n chosen below ∙ ap (those (has kept)) (sym e) ∙ chosen-kept;
     key-has = key-length;
@@ -86,3 +86,6 @@ module _ (#V : ℕ) (f : Formula) (A : List Label) (formed : WellFormed #V f) (h
     transition-keepable own own-are out room =
         let n = ap total own-are ∙ number-is in
         record { walkable = w; room = room; own-are = own-are; few = λ on. omega arith; among = λ on. omega arith }
+
+pub transition-says : (#V : ℕ) (f : Formula) (A : List Label) → EachTransitionSays #V f A
+transition-says = kth-says

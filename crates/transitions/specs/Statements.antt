@@ -1,14 +1,15 @@
--- What is marked and assigned of transition k of an accepted formula, in the terms of document 001 (document 01, "Key",
--- "Numbering" and "Requests"); proofs/Numbered.antt proves it.
-use Prim.Native.Nat.{ℕ}
+-- What is marked and assigned of transition k of a formula with a minimal covering, in the terms of document 001 (document 01,
+-- "Key", "Numbering" and "Requests"); proofs/Numbered.antt proves it.
+use Prim.Native.Nat.{ℕ, _<_}
 use mathlib.Core.Bool.{Bool}
 use mathlib.Core.Path.{_≡_}
 use mathlib.Core.List.{List, [], map, List·Memᴰ}
 use lib.ListN.{length, getD}
 use Rattle.paper.specs.declared.Label.{Label}
 use Rattle.paper.specs.Lists.{those}
-use Rattle.paper.specs.Formula.{ℓ, has, Formula}
+use Rattle.paper.specs.Formula.{ℓ, has, Formula, Rising, WellFormed}
 use Rattle.paper.specs.Order.{OrderOf}
+use Rattle.paper.specs.Strategy.{Homogeneous, MinimalCovering}
 use Rattle.paper.specs.Transition.{isKept, class, keys}
 use Rattle.paper.specs.Structure.Kept.{keptAt}
 use Rattle.marks.specs.Marks.{AllBelow}
@@ -34,3 +35,8 @@ pub record TransitionSays (#V : ℕ) (f : Formula) (A : List Label) (k : ℕ) : 
       → (b : List Label) → List·Memᴰ b (class f A (kthKey f A k)) → map ℓ (keptOf (kthBytes f A k n) order) ≡ those (has b) (map ℓ order)
   pub ordered-as-many : (R : Label → Label → Bool) (n : ℕ) (order : List ℕ) → OrderOf R A (map ℓ order) → AllBelow n order
       → length (keptOf (kthBytes f A k n) order) ≡ #V
+
+-- each number below the count has such a transition, where the proposal's labels ascend and are a minimal covering by candidates
+abbrev pub EachTransitionSays : ℕ → Formula → List Label → Type 0
+EachTransitionSays #V f A =
+    WellFormed #V f → Homogeneous f A → MinimalCovering #V f A → Rising 0 A → (k : ℕ) → k < length (keys f A) → TransitionSays #V f A k

@@ -11,7 +11,7 @@ use Rattle.table.specs.declared.Layout.{Layout}
 use Rattle.table.specs.declared.Checked.the-variants.{Sound}
 use Rattle.table.specs.Table.{checked, readsIn, rowsIn}
 use Rattle.written.specs.Written.{Table, readWords, readsFrom, takenReads, size, rowsFrom, section, written, Within}
-use Rattle.written.specs.Tables.{tableIn, layoutOf, SoundExactly, OneTable, WrittenOnce, Understood}
+use Rattle.written.specs.Tables.{tableIn, layoutOf, SoundExactly, OneTable, WrittenOnce, SoundUnderstood}
 use Rattle.entries.proofs.First.{of-neither}
 use Rattle.written.proofs.Stands.{Stands, stands-whole, stands-there, stands-front, stands-back, entry-at}
 use Rattle.written.proofs.Words.{map-back, Each, each-none, each-append, each-map, none-falls, none-beyond}
@@ -146,7 +146,7 @@ module _ (t : Table) (w : Within t) where
 pub one-table : (words : List ℕ) → OneTable words
 one-table words t w e = rw e (laid (written t) (layoutOf t) (laid-out t w), read-back t w)
 
-pub understood : (words : List ℕ) (l : Layout) → checked words ≡ Sound l → Understood words l
+pub understood : (words : List ℕ) (l : Layout) → SoundUnderstood words l
 understood words l e = understand words l (accepted words l e)
 
 pub sound-exactly : (words : List ℕ) → SoundExactly words

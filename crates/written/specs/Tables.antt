@@ -73,3 +73,7 @@ pub record Understood (words : List ℕ) (l : Layout) : Type 0 where
   pub labels-are : labels (formulaIn words l) ≡ labelsOn 0 (l .rows)
   pub reads-are : takenReads (formulaIn words l) ≡ readsIn words l
   pub well-formed : WellFormed (l .variables) (formulaIn words l)
+
+-- all words that pass the checks are so
+abbrev pub SoundUnderstood : List ℕ → Layout → Type 0
+SoundUnderstood words l = checked words ≡ Sound l → Understood words l
