@@ -3,3 +3,4 @@ pub mod Accepted
 pub mod Keeping
 pub mod Amounts
 pub mod OneOutcome
+pub mod RefusalLeaves

@@ -1,16 +1,10 @@
--- For each public function, any two outcomes that its promise allows are equal: the answer, and every lent word or byte afterwards.
-use Prim.Native.Nat.{ℕ}
-use mathlib.Core.List.{List}
-use lib.ListN.{length}
+-- For each public function, any two outcomes that its contract allows are equal: the answer, and every lent word or byte afterwards.
 use Rattle.paper.specs.Outcome.{OneOutcome}
-use Rattle.filling.specs.Filling.{Fills}
-use Rattle.filling.proofs.OneOutcome.{one-filling}
-use Rattle.verdict.specs.declared.Accepted.{Accepted}
-use Rattle.answers.specs.Requests.{transitionOutcome, assignmentsOutcome}
+use Rattle.paper.proofs.Outcome.{by-equation}
+use Rattle.answers.proofs.judged as judged
 
-module _ (lent words : List ℕ) (k : ℕ) (a : Accepted) where
-  pub transition-of : OneOutcome (λ left r. Fills (transitionOutcome words k (length lent) (a .layout) (a .transitions)) lent left r)
-  transition-of = one-filling lent (transitionOutcome words k (length lent) (a .layout) (a .transitions))
+pub transition-of : OneOutcome judged.transition_of.Kinds.ps judged.transition_of.Kinds.r judged.transition_of.Reads.Pre judged.transition_of.Reads.Post
+transition-of κs a pre x y v w p q = (by-equation (p .answered) (q .answered), λ i. (tt, (tt, (tt, (by-equation (p .left-so) (q .left-so) i, tt)))))
 
-  pub assignments-of : OneOutcome (λ left r. Fills (assignmentsOutcome words k (length lent) (a .layout) (a .transitions)) lent left r)
-  assignments-of = one-filling lent (assignmentsOutcome words k (length lent) (a .layout) (a .transitions))
+pub assignments-of : OneOutcome judged.assignments_of.Kinds.ps judged.assignments_of.Kinds.r judged.assignments_of.Reads.Pre judged.assignments_of.Reads.Post
+assignments-of κs a pre x y v w p q = (by-equation (p .answered) (q .answered), λ i. (tt, (tt, (tt, (tt, (by-equation (p .left-so) (q .left-so) i, tt))))))

@@ -1,10 +1,8 @@
--- For each public function, any two outcomes that its promise allows are equal.
-use Prim.Native.Nat.{ℕ}
-use mathlib.Core.Path.{_≡_}
-use mathlib.Core.List.{List}
-use Rattle.paper.specs.Outcome.{OneAnswer}
+-- For the public function, any two outcomes that its contract allows are equal.
+use mathlib.Core.Path.{refl}
+use Rattle.paper.specs.Outcome.{OneOutcome}
 use Rattle.paper.proofs.Outcome.{by-equation}
-use Rattle.cover.specs.Words.{coveringOf}
+use Rattle.cover.proofs as cover
 
-pub covering-of : (marks rows : List ℕ) (#V : ℕ) → OneAnswer (λ r. r ≡ coveringOf rows marks #V)
-covering-of marks rows #V = by-equation (coveringOf rows marks #V)
+pub covering-of : OneOutcome cover.covering_of.Kinds.ps cover.covering_of.Kinds.r cover.covering_of.Reads.Pre cover.covering_of.Reads.Post
+covering-of κs a pre x y v w p q = (by-equation p q, refl)

@@ -1,10 +1,9 @@
--- For the public function, any two outcomes that its promise allows are equal.
-use Prim.Native.Nat.{ℕ}
-use mathlib.Core.Path.{_≡_}
-use mathlib.Core.List.{List}
-use Rattle.paper.specs.Outcome.{OneAnswer}
+-- For the public function, any two outcomes that its contract allows are equal.
+use mathlib.Core.Path.{refl}
+use Rattle.paper.specs.Outcome.{OneOutcome}
 use Rattle.paper.proofs.Outcome.{by-equation}
-use Rattle.cycles.specs.Cyclic.{lowestCyclic}
+use Rattle.cycles.proofs as cycles
 
-pub lowest-on-cycle : (rows reads chosen : List ℕ) → OneAnswer (λ r. r ≡ lowestCyclic rows reads chosen)
-lowest-on-cycle rows reads chosen = by-equation (lowestCyclic rows reads chosen)
+pub lowest-on-cycle :
+    OneOutcome cycles.lowest_on_cycle.Kinds.ps cycles.lowest_on_cycle.Kinds.r cycles.lowest_on_cycle.Reads.Pre cycles.lowest_on_cycle.Reads.Post
+lowest-on-cycle κs a pre x y v w p q = (by-equation p q, refl)

@@ -1,28 +1,23 @@
--- For each public function, any two outcomes that its promise allows are equal.
-use Prim.Native.Nat.{ℕ, min}
-use mathlib.Core.Bool.{_||_}
-use mathlib.Core.Path.{_≡_}
-use mathlib.Core.List.{List}
-use Rattle.paper.specs.Outcome.{OneAnswer}
+-- For each public function, any two outcomes that its contract allows are equal.
+use mathlib.Core.Path.{refl}
+use Rattle.paper.specs.Outcome.{OneOutcome}
 use Rattle.paper.proofs.Outcome.{by-equation}
-use Rattle.entries.specs.First.{first}
-use Rattle.entries.specs.Entries.{falls, ascend, beyond}
+use Rattle.entries.proofs as entries
 
-pub wide : (x : ℕ) → OneAnswer (λ r. r ≡ x)
-wide = by-equation
+pub wide : OneOutcome entries.wide.Kinds.ps entries.wide.Kinds.r entries.wide.Reads.Pre entries.wide.Reads.Post
+wide κs a pre x y v w p q = (by-equation p q, refl)
 
-pub least : (a b : ℕ) → OneAnswer (λ r. r ≡ min a b)
-least a b = by-equation (min a b)
+pub least : OneOutcome entries.least.Kinds.ps entries.least.Kinds.r entries.least.Reads.Pre entries.least.Reads.Post
+least κs a pre x y v w p q = (by-equation p q, refl)
 
-module _ (words : List ℕ) (n : ℕ) where
-  pub first-fall : OneAnswer (λ r. r ≡ first (falls words) n)
-  first-fall = by-equation (first (falls words) n)
+pub first-fall : OneOutcome entries.first_fall.Kinds.ps entries.first_fall.Kinds.r entries.first_fall.Reads.Pre entries.first_fall.Reads.Post
+first-fall κs a pre x y v w p q = (by-equation p q, refl)
 
-  pub are-ascending : OneAnswer (λ r. r ≡ ascend words n)
-  are-ascending = by-equation (ascend words n)
+pub are-ascending : OneOutcome entries.are_ascending.Kinds.ps entries.are_ascending.Kinds.r entries.are_ascending.Reads.Pre entries.are_ascending.Reads.Post
+are-ascending κs a pre x y v w p q = (by-equation p q, refl)
 
-  pub first-beyond : (variables : ℕ) → OneAnswer (λ r. r ≡ first (beyond words variables) n)
-  first-beyond variables = by-equation (first (beyond words variables) n)
+pub first-beyond : OneOutcome entries.first_beyond.Kinds.ps entries.first_beyond.Kinds.r entries.first_beyond.Reads.Pre entries.first_beyond.Reads.Post
+first-beyond κs a pre x y v w p q = (by-equation p q, refl)
 
-  pub first-unfit : (rows : ℕ) → OneAnswer (λ r. r ≡ first (λ k. beyond words rows k || falls words k) n)
-  first-unfit rows = by-equation (first (λ k. beyond words rows k || falls words k) n)
+pub first-unfit : OneOutcome entries.first_unfit.Kinds.ps entries.first_unfit.Kinds.r entries.first_unfit.Reads.Pre entries.first_unfit.Reads.Post
+first-unfit κs a pre x y v w p q = (by-equation p q, refl)

@@ -1,2 +1,3 @@
 pub mod Copies
 pub mod OneOutcome
+pub mod RefusalLeaves

@@ -1,23 +1,14 @@
--- For each public function, any two outcomes that its promise allows are equal: the answer, and every lent word or byte afterwards.
-use Prim.Native.Nat.{ℕ}
-use mathlib.Core.Path.{_≡_}
-use mathlib.Core.List.{List}
-use lib.ListN.{length, take}
-use Rattle.paper.specs.Outcome.{OneAnswer, OneOutcome}
+-- For each public function, any two outcomes that its contract allows are equal: the answer, and every lent word or byte afterwards.
+use mathlib.Core.Path.{refl}
+use Rattle.paper.specs.Outcome.{OneOutcome}
 use Rattle.paper.proofs.Outcome.{by-equation}
-use Rattle.filling.specs.Filling.{Outcome, refuses, unlessShort, filledOf, after, Fills}
+use Rattle.filling.proofs as filling
 
-pub refused : (number place : ℕ) → OneAnswer (λ r. r ≡ filledOf (refuses number place))
-refused number place = by-equation (filledOf (refuses number place))
+pub refused : OneOutcome filling.refused.Kinds.ps filling.refused.Kinds.r filling.refused.Reads.Pre filling.refused.Reads.Post
+refused κs a pre x y v w p q = (by-equation p q, refl)
 
-module _ (lent : List ℕ) where
-  -- what a request does decides all
-  pub one-filling : (o : Outcome) → OneOutcome (λ left r. Fills o lent left r)
-  one-filling o left other r s p q =
-      (by-equation (filledOf o) r s (p .answered) (q .answered), by-equation (after o lent) left other (p .left-so) (q .left-so))
+pub fill-words : OneOutcome filling.fill_words.Kinds.ps filling.fill_words.Kinds.r filling.fill_words.Reads.Pre filling.fill_words.Reads.Post
+fill-words κs a pre x y v w p q = (by-equation (p .answered) (q .answered), λ i. (tt, (tt, (by-equation (p .left-so) (q .left-so) i, tt))))
 
-  pub fill-words : (count : ℕ) (from : List ℕ) → OneOutcome (λ left r. Fills (unlessShort (length lent) (take count from)) lent left r)
-  fill-words count from = one-filling (unlessShort (length lent) (take count from))
-
-  pub fill-bytes : (n : ℕ) (from : List ℕ) → OneOutcome (λ left r. Fills (unlessShort (length lent) (take n from)) lent left r)
-  fill-bytes = fill-words
+pub fill-bytes : OneOutcome filling.fill_bytes.Kinds.ps filling.fill_bytes.Kinds.r filling.fill_bytes.Reads.Pre filling.fill_bytes.Reads.Post
+fill-bytes κs a pre x y v w p q = (by-equation (p .answered) (q .answered), λ i. (tt, (tt, (by-equation (p .left-so) (q .left-so) i, tt))))

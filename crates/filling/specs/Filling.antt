@@ -29,6 +29,11 @@ abbrev pub after : Outcome → List ℕ → List ℕ
 after (refuses number place) out = out
 after (fills ws) out = inFront ws out
 
+-- the answer is a refusal
+abbrev pub IsRefusal : Filled → Type 0
+IsRefusal (filled.Done l) = ⊥
+IsRefusal (filled.Refused x) = Unit {0}
+
 -- what a request that fills answers and leaves
 pub record Fills (o : Outcome) (lent left : List ℕ) (r : Filled) : Type 0 where
   pub answered : r ≡ filledOf o

@@ -1,22 +1,12 @@
--- For each public function, any two outcomes that its promise allows are equal: the answer, and every lent word afterwards.
-use Prim.Native.Nat.{ℕ}
-use mathlib.Core.Path.{_≡_}
-use mathlib.Core.List.{List}
-use lib.ListN.{length}
+-- For each public function, any two outcomes that its contract allows are equal: the answer, and every lent word afterwards.
 use Rattle.paper.specs.Outcome.{OneOutcome}
 use Rattle.paper.proofs.Outcome.{by-equation}
-use Rattle.entries.specs.Front.{inFront}
-use Rattle.verdict.specs.declared.Judged.{Judged}
-use Rattle.input.specs.Bytes.{wordsOf, WordsIn, judgedBytes, wordsLeft, orderLeftBy, JudgedBytes}
+use Rattle.input.proofs.words as words
+use Rattle.input.proofs.judging as judging
 
-pub fill-words : (bytes lent : List ℕ) → OneOutcome (λ left r. WordsIn bytes lent left r)
-fill-words bytes lent left other r s p q =
-    (by-equation (length (wordsOf bytes)) r s (p .many) (q .many), by-equation (inFront (wordsOf bytes) lent) left other (p .stand) (q .stand))
+pub fill-words : OneOutcome words.fill_words.Kinds.ps words.fill_words.Kinds.r words.fill_words.Reads.Pre words.fill_words.Reads.Post
+fill-words κs a pre x y v w p q = (by-equation (p .many) (q .many), λ i. (tt, (by-equation (p .stand) (q .stand) i, tt)))
 
-pub judge-bytes : (bytes words₀ order₀ words words′ order order′ : List ℕ) (r s : Judged) → JudgedBytes bytes words₀ words order₀ order r
-    → JudgedBytes bytes words₀ words′ order₀ order′ s → (r ≡ s) × (words ≡ words′) × (order ≡ order′)
-judge-bytes bytes words₀ order₀ words words′ order order′ r s p q = (
-  by-equation (judgedBytes bytes) r s (p .answered) (q .answered),
-  by-equation (wordsLeft bytes words₀) words words′ (p .words-so) (q .words-so),
-  by-equation (orderLeftBy bytes order₀) order order′ (p .order-so) (q .order-so),
-)
+pub judge-bytes : OneOutcome judging.judge_bytes.Kinds.ps judging.judge_bytes.Kinds.r judging.judge_bytes.Reads.Pre judging.judge_bytes.Reads.Post
+judge-bytes κs a pre x y v w p q =
+    (by-equation (p .answered) (q .answered), λ i. (tt, (by-equation (p .words-so) (q .words-so) i, (by-equation (p .order-so) (q .order-so) i, tt))))

@@ -1,14 +1,11 @@
--- For each public function, any two outcomes that its promise allows are equal.
-use Prim.Native.Nat.{ℕ, _≤_}
-use mathlib.Core.Path.{_≡_}
-use mathlib.Core.List.{List}
-use Rattle.paper.specs.Outcome.{OneAnswer}
+-- For each public function, any two outcomes that its contract allows are equal.
+use mathlib.Core.Path.{refl}
+use Rattle.paper.specs.Outcome.{OneOutcome}
 use Rattle.paper.proofs.Outcome.{by-equation}
-use Rattle.keys.specs.declared.Distinct.{Distinct}
-use Rattle.keys.specs.Keys.{limit, total, keysAt}
+use Rattle.keys.proofs as keys
 
-pub total-of : (k : Distinct) → OneAnswer (λ r. r ≡ total k)
-total-of k = by-equation (total k)
+pub total-of : OneOutcome keys.total_of.Kinds.ps keys.total_of.Kinds.r keys.total_of.Reads.Pre keys.total_of.Reads.Post
+total-of κs a pre x y v w p q = (by-equation p q, refl)
 
-pub keys-of : (marks rows : List ℕ) (left i : ℕ) → OneAnswer (λ r. (r ≡ keysAt rows marks left i) × (r .more ≤ limit))
-keys-of marks rows left i r s p q = by-equation (keysAt rows marks left i) r s (p .0) (q .0)
+pub keys-of : OneOutcome keys.keys_of.Kinds.ps keys.keys_of.Kinds.r keys.keys_of.Reads.Pre keys.keys_of.Reads.Post
+keys-of κs a pre x y v w p q = (by-equation (p .0) (q .0), refl)

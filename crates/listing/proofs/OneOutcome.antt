@@ -1,45 +1,33 @@
--- For each public function, any two outcomes that its promise allows are equal: the answer, and every byte of the lent buffer.
-use Prim.Native.Nat.{ℕ, _+_}
-use mathlib.Core.List.{List, [], _∷_}
+-- For each public function, any two outcomes that its contract allows are equal: the answer, and every byte of the lent buffer.
 use Rattle.paper.specs.Outcome.{OneOutcome}
 use Rattle.paper.proofs.Outcome.{by-equation}
-use Rattle.marks.specs.Marks.{positions}
-use Rattle.listing.specs.Text.{decimal, fields, acceptedLine, orderLine, transitionLine, refusedLine}
-use Rattle.listing.specs.Placed.{placed, Put}
-use lib.ListN.{length}
+use Rattle.listing.proofs as listing
 
-module _ (old : List ℕ) (at : ℕ) where
-  -- the bytes that a function puts decide all
-  abbrev Puts : List ℕ → List ℕ → ℕ → Type 0
-  Puts bytes left r = Put old at bytes left r
+pub put-byte : OneOutcome listing.put_byte.Kinds.ps listing.put_byte.Kinds.r listing.put_byte.Reads.Pre listing.put_byte.Reads.Post
+put-byte κs a pre x y v w p q = (by-equation (p .next) (q .next), λ i. (by-equation (p .text) (q .text) i, v .1))
 
-  one-put : (bytes : List ℕ) → OneOutcome (Puts bytes)
-  one-put bytes left other r s p q =
-      (by-equation (at + length bytes) r s (p .next) (q .next), by-equation (placed old at bytes) left other (p .text) (q .text))
+pub put-word : OneOutcome listing.put_word.Kinds.ps listing.put_word.Kinds.r listing.put_word.Reads.Pre listing.put_word.Reads.Post
+put-word κs a pre x y v w p q = (by-equation (p .next) (q .next), λ i. (by-equation (p .text) (q .text) i, v .1))
 
-  pub put-byte : (b : ℕ) → OneOutcome (Puts (b ∷ []))
-  put-byte b = one-put (b ∷ [])
+pub put-decimal : OneOutcome listing.put_decimal.Kinds.ps listing.put_decimal.Kinds.r listing.put_decimal.Reads.Pre listing.put_decimal.Reads.Post
+put-decimal κs a pre x y v w p q = (by-equation (p .0 .next) (q .0 .next), λ i. (by-equation (p .0 .text) (q .0 .text) i, v .1))
 
-  pub put-word : (word : List ℕ) → OneOutcome (Puts word)
-  put-word = one-put
+pub put-fields : OneOutcome listing.put_fields.Kinds.ps listing.put_fields.Kinds.r listing.put_fields.Reads.Pre listing.put_fields.Reads.Post
+put-fields κs a pre x y v w p q = (by-equation (p .0 .next) (q .0 .next), λ i. (by-equation (p .0 .text) (q .0 .text) i, v .1))
 
-  pub put-decimal : (n : ℕ) → OneOutcome (Puts (decimal n))
-  put-decimal n = one-put (decimal n)
+pub put-kept-fields :
+    OneOutcome listing.put_kept_fields.Kinds.ps listing.put_kept_fields.Kinds.r listing.put_kept_fields.Reads.Pre listing.put_kept_fields.Reads.Post
+put-kept-fields κs a pre x y v w p q = (by-equation (p .0 .next) (q .0 .next), λ i. (by-equation (p .0 .text) (q .0 .text) i, v .1))
 
-  pub put-fields : (labels : List ℕ) → OneOutcome (Puts (fields labels))
-  put-fields labels = one-put (fields labels)
+pub put-accepted : OneOutcome listing.put_accepted.Kinds.ps listing.put_accepted.Kinds.r listing.put_accepted.Reads.Pre listing.put_accepted.Reads.Post
+put-accepted κs a pre x y v w p q = (by-equation (p .0 .next) (q .0 .next), λ i. (by-equation (p .0 .text) (q .0 .text) i, v .1))
 
-  pub put-kept-fields : (kept : List ℕ) → OneOutcome (Puts (fields (positions kept)))
-  put-kept-fields kept = one-put (fields (positions kept))
+pub put-order : OneOutcome listing.put_order.Kinds.ps listing.put_order.Kinds.r listing.put_order.Reads.Pre listing.put_order.Reads.Post
+put-order κs a pre x y v w p q = (by-equation (p .0 .next) (q .0 .next), λ i. (by-equation (p .0 .text) (q .0 .text) i, v .1))
 
-  pub put-accepted : (variables rows chosen transitions : ℕ) → OneOutcome (Puts (acceptedLine variables rows chosen transitions))
-  put-accepted variables rows chosen transitions = one-put (acceptedLine variables rows chosen transitions)
+pub put-transition :
+    OneOutcome listing.put_transition.Kinds.ps listing.put_transition.Kinds.r listing.put_transition.Reads.Pre listing.put_transition.Reads.Post
+put-transition κs a pre x y v w p q = (by-equation (p .0 .next) (q .0 .next), λ i. (by-equation (p .0 .text) (q .0 .text) i, v .1))
 
-  pub put-order : (labels : List ℕ) → OneOutcome (Puts (orderLine labels))
-  put-order labels = one-put (orderLine labels)
-
-  pub put-transition : (k : ℕ) (assigned kept : List ℕ) → OneOutcome (Puts (transitionLine k assigned (positions kept)))
-  put-transition k assigned kept = one-put (transitionLine k assigned (positions kept))
-
-  pub put-refused : (number place : ℕ) → OneOutcome (Puts (refusedLine number place))
-  put-refused number place = one-put (refusedLine number place)
+pub put-refused : OneOutcome listing.put_refused.Kinds.ps listing.put_refused.Kinds.r listing.put_refused.Reads.Pre listing.put_refused.Reads.Post
+put-refused κs a pre x y v w p q = (by-equation (p .0 .next) (q .0 .next), λ i. (by-equation (p .0 .text) (q .0 .text) i, v .1))

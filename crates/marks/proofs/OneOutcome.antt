@@ -1,4 +1,4 @@
--- For each public function, any two outcomes that its promise allows are equal.
+-- For each public function, any two outcomes that its contract allows are equal.
 use Prim.Native.Nat.{ℕ, _<_}
 use native.Mathlib.Omega.{arith}
 use mathlib.Core.Path.{_≡_, refl, sym, _∙_}
@@ -8,9 +8,10 @@ use lib.Dec.{eqb}
 use lib.ListN.{getD}
 use borrow.Author.Tests.{eqb-true, eqb-false}
 use Rattle.paper.specs.declared.Label.{Label}
-use Rattle.paper.specs.Outcome.{OneAnswer}
+use Rattle.paper.specs.Outcome.{OneOutcome}
 use Rattle.paper.proofs.Outcome.{by-equation, by-entries}
 use Rattle.marks.specs.Marks.{isMarked, MarksOf}
+use Rattle.marks.proofs as marks
 
 -- bytes that are 0 or 1 and say the same are the same
 same-bit : (a b : ℕ) → a < 2 → b < 2 → eqb a 1 ≡ eqb b 1 → a ≡ b
@@ -20,9 +21,9 @@ same-bit a b low low′ e = by (eqb b 1) refl
     by true t = let p = eqb-true a 1 (e ∙ t) in let q = eqb-true b 1 t in omega arith
     by false t = let p = eqb-false a 1 (e ∙ t) in let q = eqb-false b 1 t in omega arith
 
-pub marks-of : (A : List Label) → OneAnswer (MarksOf A)
+one-marking : (A : List Label) (xs ys : List ℕ) → MarksOf A xs → MarksOf A ys → xs ≡ ys
 unfolding isMarked
-marks-of A xs ys p q =
+one-marking A xs ys p q =
     let m = p .marked in
     let n = q .marked in
     let x = m .size in
@@ -30,5 +31,8 @@ marks-of A xs ys p q =
     by-entries xs ys (x ∙ sym y)
     (λ i h. same-bit (getD xs i 0) (getD ys i 0) (p .bits i h) (q .bits i (omega arith)) (m .marks-are i (omega arith) ∙ sym (n .marks-are i (omega arith))))
 
-pub is-marked : (marks : List ℕ) (l : ℕ) → OneAnswer (λ r. r ≡ isMarked marks l)
-is-marked marks l = by-equation (isMarked marks l)
+pub is-marked : OneOutcome marks.is_marked.Kinds.ps marks.is_marked.Kinds.r marks.is_marked.Reads.Pre marks.is_marked.Reads.Post
+is-marked κs a pre x y v w p q = (by-equation p q, refl)
+
+pub marks-of : OneOutcome marks.marks_of.Kinds.ps marks.marks_of.Kinds.r marks.marks_of.Reads.Pre marks.marks_of.Reads.Post
+marks-of κs a pre x y v w p q = (one-marking _ x y p q, refl)

@@ -1,29 +1,17 @@
--- For each public function, any two outcomes that its promise allows are equal: the answer, or every word of the lent net.
+-- For each public function, any two outcomes that its contract allows are equal: the answer, or every word of the lent net.
 use Prim.Native.Nat.{ℕ, _+_, _-_, _<_, _≤_}
 use native.Mathlib.Omega.{arith}
-use mathlib.Core.Path.{_≡_, sym, subst⁻¹, _∙_}
+use mathlib.Core.Path.{_≡_, refl, sym, subst⁻¹, ap, _∙_}
 use mathlib.Core.Logic.{_⊎_, inl, inr}
 use mathlib.Core.List.{List}
 use lib.ListN.{length, getD}
 use Rattle.paper.specs.Formula.{ℓ}
-use Rattle.paper.specs.Outcome.{OneAnswer}
+use Rattle.paper.specs.Outcome.{OneOutcome}
 use Rattle.paper.proofs.Bools.{pick}
 use Rattle.paper.proofs.Outcome.{by-equation, by-entries}
 use Rattle.rows.proofs.Meets.{lt-or-le}
-use Rattle.net.specs.Net.{guardsFrom, nextsFrom, firstsFrom, netLength, Chosen, Noted, ParentWord, GuardWord, ChainWord, Cleared, clearTo}
-
-module _ (net : List ℕ) where
-  pub guard-of : (i : ℕ) → OneAnswer (λ r. r ≡ ℓ (getD net (guardsFrom + i) 0))
-  guard-of i = by-equation (ℓ (getD net (guardsFrom + i) 0))
-
-  pub next-of : (k : ℕ) → OneAnswer (λ r. r ≡ getD net (nextsFrom + k) 0)
-  next-of k = by-equation (getD net (nextsFrom + k) 0)
-
-  pub first-of : (v : ℕ) → OneAnswer (λ r. r ≡ getD net (firstsFrom + v) 0)
-  first-of v = by-equation (getD net (firstsFrom + v) 0)
-
-pub clear-of : (rows : List ℕ) (i j : ℕ) → OneAnswer (λ r. Cleared rows i j r)
-clear-of rows i j r s p q = by-equation (clearTo rows i j) r s (p .exactly) (q .exactly)
+use Rattle.net.specs.Net.{guardsFrom, nextsFrom, firstsFrom, netLength, Chosen, Noted, ParentWord, GuardWord, ChainWord}
+use Rattle.net.proofs as net
 
 -- a word of a part, by its place there
 module _ (xs ys : List ℕ) (from : ℕ) {i : ℕ} (h : from ≤ i) where
@@ -95,8 +83,23 @@ module _ (rows chosen : List ℕ) (#N : ℕ) (made : Chosen rows chosen #N) (old
         pick (lt-or-le i guardsFrom) (parent-word i)
         (λ a. pick (lt-or-le i nextsFrom) (guard-word i a) (λ b. pick (lt-or-le i firstsFrom) (next-word i b) (λ c. first-word i c h)))
 
-  pub note-net : OneAnswer (Noted rows chosen #N old)
-  note-net xs ys p q =
+  one-net : (xs ys : List ℕ) → Noted rows chosen #N old xs → Noted rows chosen #N old ys → xs ≡ ys
+  one-net xs ys p q =
       let x = p .noted .parents .size in
       let y = q .noted .parents .size in
       by-entries xs ys (x ∙ sym y) (λ i h. each-word p q i (omega arith))
+
+pub guard-of : OneOutcome net.guard_of.Kinds.ps net.guard_of.Kinds.r net.guard_of.Reads.Pre net.guard_of.Reads.Post
+guard-of κs a pre x y v w p q = (by-equation p q, refl)
+
+pub next-of : OneOutcome net.next_of.Kinds.ps net.next_of.Kinds.r net.next_of.Reads.Pre net.next_of.Reads.Post
+next-of κs a pre x y v w p q = (by-equation p q, refl)
+
+pub first-of : OneOutcome net.first_of.Kinds.ps net.first_of.Kinds.r net.first_of.Reads.Pre net.first_of.Reads.Post
+first-of κs a pre x y v w p q = (by-equation p q, refl)
+
+pub clear-of : OneOutcome net.clear_of.Kinds.ps net.clear_of.Kinds.r net.clear_of.Reads.Pre net.clear_of.Reads.Post
+clear-of κs a pre x y v w p q = (ap ℓ (by-equation (p .exactly) (q .exactly)), refl)
+
+pub note-net : OneOutcome net.note_net.Kinds.ps net.note_net.Kinds.r net.note_net.Reads.Pre net.note_net.Reads.Post
+note-net κs a pre x y v w p q = (refl, λ i. (tt, (tt, (tt, (one-net _ _ _ (pre .0) _ _ _ p q i, tt)))))

@@ -1,42 +1,36 @@
--- For each public function, any two outcomes that its promise allows are equal: the answer, and every lent word or byte afterwards.
-use Prim.Native.Nat.{ℕ}
-use mathlib.Core.Path.{_≡_}
-use mathlib.Core.List.{List}
-use lib.ListN.{length}
-use Rattle.paper.specs.Outcome.{OneAnswer, OneOutcome}
+-- For each public function, any two outcomes that its contract allows are equal: the answer, and every lent word or byte afterwards.
+use mathlib.Core.Path.{refl}
+use Rattle.paper.specs.Outcome.{OneOutcome}
 use Rattle.paper.proofs.Outcome.{by-equation}
-use Rattle.filling.specs.Filling.{Outcome, filledOf, after, Fills}
-use Rattle.filling.proofs.OneOutcome.{one-filling}
-use Rattle.answers.specs.Requests.{judgeOf, orderOf, transitionOf, assignmentsOf}
-use Rattle.nocturenc.specs.Packed.{packedAnswer, packedFilled, AnswerPacked, FillsPacked}
+use Rattle.nocturenc.proofs.requests as requests
+use Rattle.nocturenc.proofs.exported as exported
 
-one-packed : (lent : List ℕ) (o : Outcome) → OneOutcome (λ left r. FillsPacked o lent left r)
-one-packed lent o left other r s p q =
-    (by-equation (packedFilled (filledOf o)) r s (p .answered) (q .answered), by-equation (after o lent) left other (p .left-so) (q .left-so))
+pub judge : OneOutcome requests.judge.Kinds.ps requests.judge.Kinds.r requests.judge.Reads.Pre requests.judge.Reads.Post
+judge κs a pre x y v w p q = (by-equation p q, refl)
 
-module _ (words : List ℕ) where
-  pub judge : OneAnswer (λ r. r ≡ judgeOf words)
-  judge = by-equation (judgeOf words)
+pub order : OneOutcome requests.order.Kinds.ps requests.order.Kinds.r requests.order.Reads.Pre requests.order.Reads.Post
+order κs a pre x y v w p q = (by-equation (p .answered) (q .answered), λ i. (tt, (by-equation (p .left-so) (q .left-so) i, tt)))
 
-  pub nocturenc-judge : OneAnswer (λ r. AnswerPacked (judgeOf words) r)
-  nocturenc-judge r s p q = by-equation (packedAnswer (judgeOf words)) r s (p .answered) (q .answered)
+pub transition : OneOutcome requests.transition.Kinds.ps requests.transition.Kinds.r requests.transition.Reads.Pre requests.transition.Reads.Post
+transition κs a pre x y v w p q = (by-equation (p .answered) (q .answered), λ i. (tt, (tt, (by-equation (p .left-so) (q .left-so) i, tt))))
 
-  module _ (lent : List ℕ) where
-    pub order : OneOutcome (λ left r. Fills (orderOf words (length lent)) lent left r)
-    order = one-filling lent (orderOf words (length lent))
+pub assignments : OneOutcome requests.assignments.Kinds.ps requests.assignments.Kinds.r requests.assignments.Reads.Pre requests.assignments.Reads.Post
+assignments κs a pre x y v w p q = (by-equation (p .answered) (q .answered), λ i. (tt, (tt, (by-equation (p .left-so) (q .left-so) i, tt))))
 
-    pub nocturenc-order : OneOutcome (λ left r. FillsPacked (orderOf words (length lent)) lent left r)
-    nocturenc-order = one-packed lent (orderOf words (length lent))
+pub nocturenc-judge :
+    OneOutcome exported.nocturenc_judge.Kinds.ps exported.nocturenc_judge.Kinds.r exported.nocturenc_judge.Reads.Pre exported.nocturenc_judge.Reads.Post
+nocturenc-judge κs a pre x y v w p q = (by-equation (p .answered) (q .answered), refl)
 
-    module _ (k : ℕ) where
-      pub transition : OneOutcome (λ left r. Fills (transitionOf words k (length lent)) lent left r)
-      transition = one-filling lent (transitionOf words k (length lent))
+pub nocturenc-order :
+    OneOutcome exported.nocturenc_order.Kinds.ps exported.nocturenc_order.Kinds.r exported.nocturenc_order.Reads.Pre exported.nocturenc_order.Reads.Post
+nocturenc-order κs a pre x y v w p q = (by-equation (p .answered) (q .answered), λ i. (tt, (by-equation (p .left-so) (q .left-so) i, tt)))
 
-      pub nocturenc-transition : OneOutcome (λ left r. FillsPacked (transitionOf words k (length lent)) lent left r)
-      nocturenc-transition = one-packed lent (transitionOf words k (length lent))
+pub nocturenc-transition :
+    OneOutcome exported.nocturenc_transition.Kinds.ps exported.nocturenc_transition.Kinds.r
+    exported.nocturenc_transition.Reads.Pre exported.nocturenc_transition.Reads.Post
+nocturenc-transition κs a pre x y v w p q = (by-equation (p .answered) (q .answered), λ i. (tt, (tt, (by-equation (p .left-so) (q .left-so) i, tt))))
 
-      pub assignments : OneOutcome (λ left r. Fills (assignmentsOf words k (length lent)) lent left r)
-      assignments = one-filling lent (assignmentsOf words k (length lent))
-
-      pub nocturenc-assignments : OneOutcome (λ left r. FillsPacked (assignmentsOf words k (length lent)) lent left r)
-      nocturenc-assignments = one-packed lent (assignmentsOf words k (length lent))
+pub nocturenc-assignments :
+    OneOutcome exported.nocturenc_assignments.Kinds.ps exported.nocturenc_assignments.Kinds.r
+    exported.nocturenc_assignments.Reads.Pre exported.nocturenc_assignments.Reads.Post
+nocturenc-assignments κs a pre x y v w p q = (by-equation (p .answered) (q .answered), λ i. (tt, (tt, (by-equation (p .left-so) (q .left-so) i, tt))))

@@ -27,6 +27,10 @@ unfoldable pub packedFilled : Filled → ℕ
 packedFilled (filled.Done l) = l .count
 packedFilled (filled.Refused r) = refusedAs (r .number) (r .place)
 
+-- a packed answer is a refusal: its top byte is not 0
+abbrev pub IsPackedRefusal : ℕ → Type 0
+IsPackedRefusal n = n / 2 ^ 56 ≡ 0 → ⊥
+
 -- what C reads from an answer: the refusal number and its place, with 0 in the bits between; the counts, where it is accepted;
 -- the number of words or bytes filled, where a request filled them
 pub record ReadRefusal (r : Refusal) (n : ℕ) : Type 0 where

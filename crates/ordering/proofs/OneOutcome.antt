@@ -1,14 +1,7 @@
--- For the public function, any two outcomes that its promise allows are equal: the answer, and every lent word.
-use Prim.Native.Nat.{ℕ}
-use mathlib.Core.List.{List}
-use lib.ListN.{length}
+-- For the public function, any two outcomes that its contract allows are equal: the answer, and every lent word.
 use Rattle.paper.specs.Outcome.{OneOutcome}
 use Rattle.paper.proofs.Outcome.{by-equation}
-use Rattle.entries.specs.Front.{inFront}
-use Rattle.ordering.specs.Reported.{ordered, labelled, Filled}
+use Rattle.ordering.proofs as ordering
 
-pub order : (rows reads chosen out : List ℕ) → OneOutcome (λ left r. Filled rows reads chosen out left r)
-order rows reads chosen out left other r s p q = (
-  by-equation (length (ordered rows reads chosen)) r s (p .number) (q .number),
-  by-equation (inFront (labelled chosen (ordered rows reads chosen)) out) left other (p .filled) (q .filled),
-)
+pub order : OneOutcome ordering.order.Kinds.ps ordering.order.Kinds.r ordering.order.Reads.Pre ordering.order.Reads.Post
+order κs a pre x y v w p q = (by-equation (p .number) (q .number), λ i. (tt, (tt, (tt, (tt, (tt, (by-equation (p .filled) (q .filled) i, tt)))))))

@@ -1,13 +1,12 @@
--- A promise that is an equation allows one outcome, and so does one that gives a list's length and each of its entries.
+-- Two that are one value are equal, and so are two lists of one length with the same entries.
 use Prim.Native.Nat.{ℕ, zero, suc, _<_}
 use native.Mathlib.Omega.{arith}
 use mathlib.Core.Path.{_≡_, refl, sym, subst, ap, _∙_}
 use mathlib.Core.List.{List, [], _∷_}
 use lib.ListN.{length, getD}
-use Rattle.paper.specs.Outcome.{OneAnswer}
 
-pub by-equation : {A : Type 0} (value : A) → OneAnswer (λ r. r ≡ value)
-by-equation value r s p q = p ∙ sym q
+pub by-equation : {A : Type 0} {value r s : A} → r ≡ value → s ≡ value → r ≡ s
+by-equation p q = p ∙ sym q
 
 pub by-entries : (xs ys : List ℕ) → length xs ≡ length ys → ((i : ℕ) → i < length xs → getD xs i 0 ≡ getD ys i 0) → xs ≡ ys
 by-entries [] [] e same = refl

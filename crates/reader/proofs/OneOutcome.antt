@@ -1,38 +1,54 @@
--- For each public function, any two outcomes that its promise allows are equal. None has a lent word that it could change.
-use Prim.Native.Nat.{ℕ}
-use mathlib.Core.List.{List}
-use mathlib.Core.Path.{_≡_}
-use denote.Ref.{RefT, now}
-use Rattle.paper.specs.Outcome.{OneAnswer}
+-- For each public function, any two outcomes that its contract allows are equal. None has a lent word that it could change.
+use mathlib.Core.Path.{_≡_, refl}
+use denote.Ref.{now}
+use Rattle.paper.specs.Outcome.{OneOutcome, OneOutcomeWalked}
 use Rattle.paper.proofs.Outcome.{by-equation}
-use Rattle.reader.specs.declared.Reader.{Reader}
-use Rattle.reader.specs.Reading.{behindRows, rowAt, pastAt, rowPast, readerAt, readerPast}
+use Rattle.reader.specs.Reading.{rowAt, rowPast, readerAt, readerPast}
+use Rattle.reader.proofs as reader
+use Rattle.reader.proofs.plain as plain
 
 -- on a slice and a number
-module _ (words : List ℕ) where
-  pub behind-rows : OneAnswer (λ r. r ≡ behindRows words)
-  behind-rows = by-equation (behindRows words)
+pub behind-rows : OneOutcome plain.behind_rows.Kinds.ps plain.behind_rows.Kinds.r plain.behind_rows.Reads.Pre plain.behind_rows.Reads.Post
+behind-rows κs a pre x y v w p q = (by-equation p q, refl)
 
-  module _ (label : ℕ) where
-    pub row-at : OneAnswer (λ r. r ≡ rowAt words label)
-    row-at = by-equation (rowAt words label)
+pub row-at : OneOutcome plain.row_at.Kinds.ps plain.row_at.Kinds.r plain.row_at.Reads.Pre plain.row_at.Reads.Post
+row-at κs a pre x y v w p q = (by-equation p q, refl)
 
-    pub past-at : OneAnswer (λ r. r ≡ pastAt words label)
-    past-at = by-equation (pastAt words label)
+pub past-at : OneOutcome plain.past_at.Kinds.ps plain.past_at.Kinds.r plain.past_at.Reads.Pre plain.past_at.Reads.Post
+past-at κs a pre x y v w p q = (by-equation p q, refl)
 
-    pub row-of : OneAnswer (λ r. r ≡ rowAt words label)
-    row-of = row-at
+-- over a reader
+pub reader-new : OneOutcomeWalked reader.Reader.new.ended (λ M. reader.Reader.new.clauses)
+reader-new = record {
+  Says = λ κs a x e. x ≡ readerAt (a .0) (a .1 .0);
+  says-so = λ M 𝓤 H A mem run κs a g x e. refl;
+  one-outcome = λ κs a x y v w p q. (by-equation p q, refl);
+}
 
-    pub row-past : OneAnswer (λ r. r ≡ rowPast words label)
-    row-past = by-equation (rowPast words label)
+pub reader-row : OneOutcomeWalked reader.Reader.row.ended (λ M. reader.Reader.row.clauses)
+reader-row = record {
+  Says = λ κs a x e. x ≡ rowAt (now (a .0 .words)) (a .0 .at);
+  says-so = λ M 𝓤 H A mem run κs a g x e. refl;
+  one-outcome = λ κs a x y v w p q. (by-equation p q, refl);
+}
 
--- on a reader
-pub new : (words : RefT (List ℕ)) (at : ℕ) → OneAnswer (λ r. r ≡ readerAt words at)
-new words at = by-equation (readerAt words at)
+pub reader-past : OneOutcomeWalked reader.Reader.past.ended (λ M. reader.Reader.past.clauses)
+reader-past = record {
+  Says = λ κs a x e. x ≡ readerPast (a .0);
+  says-so = λ M 𝓤 H A mem run κs a g x e. refl;
+  one-outcome = λ κs a x y v w p q. (by-equation p q, refl);
+}
 
-module _ (reader : Reader) where
-  pub row : OneAnswer (λ r. r ≡ rowAt (now (reader .words)) (reader .at))
-  row = by-equation (rowAt (now (reader .words)) (reader .at))
+pub row-of : OneOutcomeWalked reader.row_of.ended (λ M. reader.row_of.clauses)
+row-of = record {
+  Says = λ κs a x e. x ≡ rowAt (now (a .0)) (a .1 .0);
+  says-so = λ M 𝓤 H A mem run κs a g x e. refl;
+  one-outcome = λ κs a x y v w p q. (by-equation p q, refl);
+}
 
-  pub past : OneAnswer (λ r. r ≡ readerPast reader)
-  past = by-equation (readerPast reader)
+pub row-past : OneOutcomeWalked reader.row_past.ended (λ M. reader.row_past.clauses)
+row-past = record {
+  Says = λ κs a x e. x ≡ rowPast (now (a .0)) (a .1 .0);
+  says-so = λ M 𝓤 H A mem run κs a g x e. refl;
+  one-outcome = λ κs a x y v w p q. (by-equation p q, refl);
+}

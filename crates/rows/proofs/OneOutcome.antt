@@ -1,40 +1,35 @@
--- For each public function, any two outcomes that its promise allows are equal.
-use Prim.Native.Nat.{ℕ, _+_, _-_}
-use mathlib.Core.Path.{_≡_, ap}
-use mathlib.Core.List.{List}
-use Rattle.paper.specs.declared.Label.{Label}
+-- For each public function, any two outcomes that its contract allows are equal.
+use mathlib.Core.Path.{refl, ap}
 use Rattle.paper.specs.Formula.{ℓ}
-use Rattle.paper.specs.Outcome.{OneAnswer}
+use Rattle.paper.specs.Outcome.{OneOutcome}
 use Rattle.paper.proofs.Outcome.{by-equation}
-use Rattle.entries.specs.First.{first}
-use Rattle.rows.specs.Rows.{kindOf, argOf, endOf, fromOf, takenBefore, breaksRules, isDeep}
-use Rattle.rows.specs.Walk.{expressionsAt, firstAt}
+use Rattle.rows.proofs as rows
+use Rattle.rows.proofs.depth as depth
+use Rattle.rows.proofs.walk as walk
 
-module _ (rows : List ℕ) where
-  module _ (i : ℕ) where
-    pub kind-of : OneAnswer (λ r. r ≡ kindOf rows i)
-    kind-of = by-equation (kindOf rows i)
+pub kind-of : OneOutcome rows.kind_of.Kinds.ps rows.kind_of.Kinds.r rows.kind_of.Reads.Pre rows.kind_of.Reads.Post
+kind-of κs a pre x y v w p q = (by-equation p q, refl)
 
-    pub arg-of : OneAnswer (λ r. r ≡ argOf rows i)
-    arg-of = by-equation (argOf rows i)
+pub arg-of : OneOutcome rows.arg_of.Kinds.ps rows.arg_of.Kinds.r rows.arg_of.Reads.Pre rows.arg_of.Reads.Post
+arg-of κs a pre x y v w p q = (by-equation p q, refl)
 
-    pub end-of : OneAnswer (λ r. r ≡ ℓ (endOf rows i))
-    end-of = by-equation (ℓ (endOf rows i))
+pub end-of : OneOutcome rows.end_of.Kinds.ps rows.end_of.Kinds.r rows.end_of.Reads.Pre rows.end_of.Reads.Post
+end-of κs a pre x y v w p q = (by-equation p q, refl)
 
-    pub from-of : OneAnswer (λ r. r ≡ fromOf rows i)
-    from-of = by-equation (fromOf rows i)
+pub from-of : OneOutcome rows.from_of.Kinds.ps rows.from_of.Kinds.r rows.from_of.Reads.Pre rows.from_of.Reads.Post
+from-of κs a pre x y v w p q = (by-equation p q, refl)
 
-    pub expressions-of : OneAnswer (λ r. r ≡ expressionsAt rows i)
-    expressions-of = by-equation (expressionsAt rows i)
+pub first-broken : OneOutcome rows.first_broken.Kinds.ps rows.first_broken.Kinds.r rows.first_broken.Reads.Pre rows.first_broken.Reads.Post
+first-broken κs a pre x y v w p q = (ap ℓ (by-equation p q), refl)
 
-    pub first-of : OneAnswer (λ r. r ≡ ℓ (firstAt rows i))
-    first-of = by-equation (ℓ (firstAt rows i))
+pub reads-taken : OneOutcome rows.reads_taken.Kinds.ps rows.reads_taken.Kinds.r rows.reads_taken.Reads.Pre rows.reads_taken.Reads.Post
+reads-taken κs a pre x y v w p q = (by-equation p q, refl)
 
-    pub first-deep : OneAnswer (λ (r : Label). r .0 ≡ i + first (λ k. isDeep rows (i + k)) (endOf rows i - i))
-    first-deep r s p q = ap ℓ (by-equation (i + first (λ k. isDeep rows (i + k)) (endOf rows i - i)) (r .0) (s .0) p q)
+pub first-deep : OneOutcome depth.first_deep.Kinds.ps depth.first_deep.Kinds.r depth.first_deep.Reads.Pre depth.first_deep.Reads.Post
+first-deep κs a pre x y v w p q = (ap ℓ (by-equation p q), refl)
 
-  pub reads-taken : (n : ℕ) → OneAnswer (λ r. r ≡ takenBefore rows n)
-  reads-taken n = by-equation (takenBefore rows n)
+pub expressions-of : OneOutcome walk.expressions_of.Kinds.ps walk.expressions_of.Kinds.r walk.expressions_of.Reads.Pre walk.expressions_of.Reads.Post
+expressions-of κs a pre x y v w p q = (by-equation p q, refl)
 
-  pub first-broken : (reads : List ℕ) (variables n : ℕ) → OneAnswer (λ (r : Label). r .0 ≡ first (breaksRules rows reads variables n) n)
-  first-broken reads variables n r s p q = ap ℓ (by-equation (first (breaksRules rows reads variables n) n) (r .0) (s .0) p q)
+pub first-of : OneOutcome walk.first_of.Kinds.ps walk.first_of.Kinds.r walk.first_of.Reads.Pre walk.first_of.Reads.Post
+first-of κs a pre x y v w p q = (by-equation p q, refl)

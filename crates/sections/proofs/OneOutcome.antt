@@ -1,29 +1,28 @@
--- For each public function, any two answers that its promise allows are equal.
-use Prim.Native.Nat.{ℕ}
-use mathlib.Core.Path.{_≡_}
-use mathlib.Core.List.{List}
-use Rattle.paper.specs.Outcome.{OneAnswer}
+-- For each public function, any two outcomes that its contract allows are equal.
+use mathlib.Core.Path.{refl}
+use Rattle.paper.specs.Outcome.{OneOutcome}
 use Rattle.paper.proofs.Outcome.{by-equation}
-use Rattle.sections.specs.declared.Cursor.{Cursor}
-use Rattle.sections.specs.Sections.{start, openAt, variablesAt, readsAt, rowsAt, strategyAt, endAt}
+use Rattle.sections.proofs as sections
 
-pub cursor-new : OneAnswer (λ r. r ≡ start)
-cursor-new = by-equation start
+pub cursor-new : OneOutcome sections.Cursor.new.Kinds.ps sections.Cursor.new.Kinds.r sections.Cursor.new.Reads.Pre sections.Cursor.new.Reads.Post
+cursor-new κs a pre x y v w p q = (by-equation p q, refl)
 
-pub cursor-open : (part : List ℕ) (c : Cursor) (low high width : ℕ) → OneAnswer (λ r. r ≡ openAt part c low high width)
-cursor-open part c low high width = by-equation (openAt part c low high width)
+pub cursor-open : OneOutcome sections.Cursor.open.Kinds.ps sections.Cursor.open.Kinds.r sections.Cursor.open.Reads.Pre sections.Cursor.open.Reads.Post
+cursor-open κs a pre x y v w p q = (by-equation p q, refl)
 
-pub cursor-variables : (part : List ℕ) (c : Cursor) → OneAnswer (λ r. r ≡ variablesAt part c)
-cursor-variables part c = by-equation (variablesAt part c)
+pub cursor-variables :
+    OneOutcome sections.Cursor.variables.Kinds.ps sections.Cursor.variables.Kinds.r sections.Cursor.variables.Reads.Pre sections.Cursor.variables.Reads.Post
+cursor-variables κs a pre x y v w p q = (by-equation p q, refl)
 
-pub cursor-reads : (part : List ℕ) (c : Cursor) → OneAnswer (λ r. r ≡ readsAt part c)
-cursor-reads part c = by-equation (readsAt part c)
+pub cursor-reads : OneOutcome sections.Cursor.reads.Kinds.ps sections.Cursor.reads.Kinds.r sections.Cursor.reads.Reads.Pre sections.Cursor.reads.Reads.Post
+cursor-reads κs a pre x y v w p q = (by-equation p q, refl)
 
-pub cursor-rows : (part reads : List ℕ) (c : Cursor) → OneAnswer (λ r. r ≡ rowsAt part reads c)
-cursor-rows part reads c = by-equation (rowsAt part reads c)
+pub cursor-rows : OneOutcome sections.Cursor.rows.Kinds.ps sections.Cursor.rows.Kinds.r sections.Cursor.rows.Reads.Pre sections.Cursor.rows.Reads.Post
+cursor-rows κs a pre x y v w p q = (by-equation p q, refl)
 
-pub cursor-strategy : (part : List ℕ) (c : Cursor) → OneAnswer (λ r. r ≡ strategyAt part c)
-cursor-strategy part c = by-equation (strategyAt part c)
+pub cursor-strategy :
+    OneOutcome sections.Cursor.strategy.Kinds.ps sections.Cursor.strategy.Kinds.r sections.Cursor.strategy.Reads.Pre sections.Cursor.strategy.Reads.Post
+cursor-strategy κs a pre x y v w p q = (by-equation p q, refl)
 
-pub cursor-end : (present : ℕ) (c : Cursor) → OneAnswer (λ r. r ≡ endAt present c)
-cursor-end present c = by-equation (endAt present c)
+pub cursor-end : OneOutcome sections.Cursor.end.Kinds.ps sections.Cursor.end.Kinds.r sections.Cursor.end.Reads.Pre sections.Cursor.end.Reads.Post
+cursor-end κs a pre x y v w p q = (by-equation p q, refl)

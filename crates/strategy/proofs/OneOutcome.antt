@@ -1,20 +1,15 @@
--- For each public function, any two outcomes that its promise allows are equal: the answer, and every word lent for the order.
-use Prim.Native.Nat.{ℕ}
-use mathlib.Core.Path.{_≡_, sym, _∙_}
-use mathlib.Core.List.{List}
-use Rattle.paper.specs.Outcome.{OneAnswer, OneOutcome}
+-- For each public function, any two outcomes that its contract allows are equal: the answer, and every word lent for the order.
+use mathlib.Core.Path.{refl}
+use Rattle.paper.specs.Outcome.{OneOutcome}
 use Rattle.paper.proofs.Outcome.{by-equation}
-use Rattle.table.specs.declared.Layout.{Layout}
-use Rattle.strategy.specs.Judge.{judgedOf, orderLeft, JudgedInto, JudgedParts}
+use Rattle.strategy.proofs as strategy
+use Rattle.strategy.proofs.checks as checks
 
-module _ (words : List ℕ) where
-  pub judge : OneAnswer (λ r. r ≡ judgedOf words)
-  judge = by-equation (judgedOf words)
+pub judge : OneOutcome strategy.judge.Kinds.ps strategy.judge.Kinds.r strategy.judge.Reads.Pre strategy.judge.Reads.Post
+judge κs a pre x y v w p q = (by-equation p q, refl)
 
-  pub judge-into : (lent : List ℕ) → OneOutcome (λ left r. JudgedInto words lent left r)
-  judge-into lent left other r s p q =
-      (by-equation (judgedOf words) r s (p .answered) (q .answered), by-equation (orderLeft words lent) left other (p .left-so) (q .left-so))
+pub judge-into : OneOutcome strategy.judge_into.Kinds.ps strategy.judge_into.Kinds.r strategy.judge_into.Reads.Pre strategy.judge_into.Reads.Post
+judge-into κs a pre x y v w p q = (by-equation (p .answered) (q .answered), λ i. (tt, (by-equation (p .left-so) (q .left-so) i, tt)))
 
--- within the crate
-pub judge-parts : (rows reads chosen : List ℕ) (l : Layout) (lent : List ℕ) → OneOutcome (λ left r. JudgedParts rows reads chosen l lent left r)
-judge-parts rows reads chosen l lent left other r s p q = (p .answered ∙ sym (q .answered), p .left-so ∙ sym (q .left-so))
+pub judge-parts : OneOutcome checks.judge_parts.Kinds.ps checks.judge_parts.Kinds.r checks.judge_parts.Reads.Pre checks.judge_parts.Reads.Post
+judge-parts κs a pre x y v w p q = (by-equation (p .answered) (q .answered), λ i. (tt, (tt, (tt, (tt, (by-equation (p .left-so) (q .left-so) i, tt))))))

@@ -47,6 +47,7 @@ P-keepable : (k : ℕ) → k < 2 → Keepable rowsOfP marksOfP (replicate 8 7) 8
 P-keepable k h = record {
   walkable = record { shaped = shaped rowsOfP (0 ∷ []) 2 8 keep (omega arith) (omega arith); here = omega arith };
   room = omega arith;
+  size = refl;
   own-are = refl;
   few = λ on. omega (arith, P-has-two);
   among = λ on. omega (arith, P-has-two);

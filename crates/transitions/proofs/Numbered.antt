@@ -85,7 +85,7 @@ module _ (#V : ℕ) (f : Formula) (A : List Label) (formed : WellFormed #V f) (h
     pub transition-keepable : (own : Distinct) → own ≡ keysAt rows marks 64 0 → (out : List ℕ) → #N ≤ length out → Keepable rows marks out #N 0 64 own k true
     transition-keepable own own-are out room =
         let n = ap total own-are ∙ number-is in
-        record { walkable = w; room = room; own-are = own-are; few = λ on. omega arith; among = λ on. omega arith }
+        record { walkable = w; room = room; size = marked .size; own-are = own-are; few = λ on. omega arith; among = λ on. omega arith }
 
 pub transition-says : (#V : ℕ) (f : Formula) (A : List Label) → EachTransitionSays #V f A
 transition-says = kth-says

@@ -1,8 +1,8 @@
--- For each public function, any two outcomes that its promise allows are equal: the answer, and every lent word or byte. The
+-- For each public function, any two outcomes that its contract allows are equal: the answer, and every lent word or byte. The
 -- promises of `keep` and `mark_kept` speak of every strategy whose marks these are; there is one, that of the labels marked.
 use Prim.Native.Nat.{ℕ, zero, suc, _<_, _≤_, _+_}
 use native.Mathlib.Omega.{arith}
-use mathlib.Core.Path.{_≡_, sym, ap, _∙_}
+use mathlib.Core.Path.{_≡_, refl, sym, ap, _∙_}
 use mathlib.Core.Bool.{Bool, true}
 use mathlib.Core.List.{List, [], _++_}
 use lib.Dec.{eqb}
@@ -10,7 +10,7 @@ use lib.ListN.{length, drop}
 use borrow.Author.Tests.{eq-eqb}
 use Rattle.paper.specs.declared.Label.{Label}
 use Rattle.paper.specs.Lists.{those}
-use Rattle.paper.specs.Outcome.{OneAnswer, OneOutcome}
+use Rattle.paper.specs.Outcome.{OneOutcome}
 use Rattle.paper.specs.Formula.{ℓ, has}
 use Rattle.paper.proofs.Bools.{or-left, or-right, same-answer, pick}
 use Rattle.paper.proofs.Outcome.{by-equation}
@@ -18,8 +18,8 @@ use Rattle.paper.proofs.Labels.{has-those, those-has}
 use Rattle.written.specs.Written.{labelsOn}
 use Rattle.rows.proofs.Meets.{lt-or-le}
 use Rattle.marks.specs.Marks.{isMarked, Marked}
-use Rattle.transitions.specs.Kept.{KeptAfter, MarkedKept}
-use Rattle.transitions.specs.Assigned.{keptOf}
+use Rattle.transitions.proofs.kept as kept
+use Rattle.transitions.proofs.assigned as assigned
 
 has-labels : (n i l : ℕ) → i ≤ l → l < i + n → has (labelsOn i n) (ℓ l) ≡ true
 has-labels zero i l from below = absurd (omega arith)
@@ -43,20 +43,24 @@ chosen-marked marks size = record { size = size; marks-are = are }
         same-answer (p (ℓ l)) (has (those p (labelsOn 0 4096)) (ℓ l)) (has-those p (labelsOn 0 4096) (ℓ l) (has-labels 4096 0 l (omega arith) (omega arith)))
         (λ t. those-has p (labelsOn 0 4096) (ℓ l) t .1)
 
-module _ {rows marks : List ℕ} (size : length marks ≡ 4096) where
-  pub keep : (left i k : ℕ) (on : Bool) (before : List ℕ) → OneAnswer (λ after. KeptAfter rows marks left i k on before after)
-  keep left i k on before after other p q =
-      let marked = chosen-marked marks size in p .bytes-are (chosenBy marks) marked [] ∙ sym (q .bytes-are (chosenBy marks) marked [])
+-- what is said of every strategy whose marks these are is said of the labels marked
+of-marks : {A : Type 0} {marks : List ℕ} → length marks ≡ 4096 → (value : List Label → List ℕ → A) {left other : A}
+    → ((A : List Label) → Marked A marks → (reads : List ℕ) → left ≡ value A reads)
+    → ((A : List Label) → Marked A marks → (reads : List ℕ) → other ≡ value A reads) → left ≡ other
+of-marks {marks = marks} size value p q = let m = chosen-marked marks size in by-equation (p (chosenBy marks) m []) (q (chosenBy marks) m [])
 
-  pub mark-kept : (#N k : ℕ) (before : List ℕ) → OneAnswer (λ after. MarkedKept rows marks #N k before after)
-  mark-kept #N k before after other p q =
-      let marked = chosen-marked marks size in p .bytes-are (chosenBy marks) marked [] ∙ sym (q .bytes-are (chosenBy marks) marked [])
+pub keep : OneOutcome kept.keep.Kinds.ps kept.keep.Kinds.r kept.keep.Reads.Pre kept.keep.Reads.Post
+keep κs a pre x y v w p q = (refl, λ i. (tt, (tt, (tt, (tt, (tt, (tt, (tt, (tt, (of-marks (pre .size) _ (p .bytes-are) (q .bytes-are) i, tt))))))))))
 
-module _ (kept labels : List ℕ) where
-  pub count-kept : OneAnswer (λ r. r ≡ length (keptOf kept labels))
-  count-kept = by-equation (length (keptOf kept labels))
+pub mark-kept : OneOutcome kept.mark_kept.Kinds.ps kept.mark_kept.Kinds.r kept.mark_kept.Reads.Pre kept.mark_kept.Reads.Post
+mark-kept κs a pre x y v w p q = (refl, λ i. (tt, (tt, (tt, (tt, (tt, (of-marks (pre .size) _ (p .bytes-are) (q .bytes-are) i, tt)))))))
 
-  -- of the labels in front
-  pub fill-assigned : (lent : List ℕ) → OneOutcome (λ left r. (r ≡ length (keptOf kept labels)) × (left ≡ keptOf kept labels ++ drop r lent))
-  fill-assigned lent left other r s (p, x) (q, y) =
-      let e = by-equation (length (keptOf kept labels)) r s p q in (e, x ∙ ap (λ n. keptOf kept labels ++ drop n lent) e ∙ sym y)
+pub count-kept : OneOutcome assigned.count_kept.Kinds.ps assigned.count_kept.Kinds.r assigned.count_kept.Reads.Pre assigned.count_kept.Reads.Post
+count-kept κs a pre x y v w p q = (by-equation p q, refl)
+
+pub fill-assigned :
+    OneOutcome assigned.fill_assigned.Kinds.ps assigned.fill_assigned.Kinds.r assigned.fill_assigned.Reads.Pre assigned.fill_assigned.Reads.Post
+fill-assigned κs a pre x y v w p q =
+    let e = by-equation (p .0) (q .0) in
+    let left : v .1 .1 .1 .0 ≡ w .1 .1 .1 .0 = cc (e, p .1, q .1) in
+    (e, λ i. (tt, (tt, (tt, (left i, tt)))))

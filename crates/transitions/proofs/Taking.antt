@@ -136,10 +136,11 @@ module _ {rows marks : List ℕ} {#N left : ℕ} {out₀ : List ℕ} {s₀ : Sha
       turn-here = u-is ∙ ap (turnOf s) n-is
 
       -- it is asked only for a key of its own
-      pub taking-asks : #N ≤ length out₀ → Keepable rows marks out #N (c .0) (left - 1) keys (u .key) (u .on)
-      taking-asks room = record {
+      pub taking-asks : #N ≤ length out₀ → length marks ≡ 4096 → Keepable rows marks out #N (c .0) (left - 1) keys (u .key) (u .on)
+      taking-asks room size = record {
         walkable = taking-on;
         room = let e = t .same-length in omega arith;
+        size = size;
         own-are = keys-are;
         few = λ on. rw keys-are (fits-on own others s fits-here (sym (ap (λ u. u .on) turn-here) ∙ on) .0);
         among = λ on. rw (keys-are, turn-here) (fits-on own others s fits-here (sym (ap (λ u. u .on) turn-here) ∙ on) .1);

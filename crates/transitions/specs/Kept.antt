@@ -58,11 +58,12 @@ unfoldable pub markedBy : List Label → List ℕ → List ℕ
 markedBy [] out = out
 markedBy (l ∷ ls) out = markedBy ls (set out (l .0) 1)
 
--- What a walk to the labels of key k of the formula at row i asks: rows to walk, a byte for each, the formula's own keys, and,
--- where the walk takes place, a number of them within the limit and k among them.
+-- What a walk to the labels of key k of the formula at row i asks: rows to walk, a byte for each, a mark for each label, the
+-- formula's own keys, and, where the walk takes place, a number of them within the limit and k among them.
 pub record Keepable (rows marks out : List ℕ) (#N i left : ℕ) (own : Distinct) (k : ℕ) (on : Bool) : Type 0 where
   pub walkable : Walkable rows #N i
   pub room : #N ≤ length out
+  pub size : length marks ≡ 4096
   pub own-are : own ≡ keysAt rows marks left i
   pub few : on ≡ true → total own ≤ 65535
   pub among : on ≡ true → k < total own

@@ -1,20 +1,15 @@
--- For each public function, any two outcomes that its promise allows are equal.
-use Prim.Native.Nat.{ℕ}
-use mathlib.Core.Path.{_≡_}
-use mathlib.Core.List.{List}
-use lib.ListN.{length}
-use Rattle.paper.specs.Outcome.{OneAnswer}
+-- For each public function, any two outcomes that its contract allows are equal.
+use mathlib.Core.Path.{refl}
+use Rattle.paper.specs.Outcome.{OneOutcome}
 use Rattle.paper.proofs.Outcome.{by-equation}
-use Rattle.table.specs.declared.Layout.{Layout}
-use Rattle.entries.specs.First.{first}
-use Rattle.keys.specs.Keys.{total, keysAt}
-use Rattle.verdict.specs.Verdict.{refusedAt, isStranger, countedAs}
+use Rattle.verdict.proofs as verdict
 
-pub refused : (number place : ℕ) → OneAnswer (λ r. r ≡ refusedAt number place)
-refused number place = by-equation (refusedAt number place)
+pub refused : OneOutcome verdict.refused.Kinds.ps verdict.refused.Kinds.r verdict.refused.Reads.Pre verdict.refused.Reads.Post
+refused κs a pre x y v w p q = (by-equation p q, refl)
 
-pub first-stranger : (rows chosen : List ℕ) → OneAnswer (λ r. r ≡ first (isStranger rows chosen) (length chosen))
-first-stranger rows chosen = by-equation (first (isStranger rows chosen) (length chosen))
+pub first-stranger :
+    OneOutcome verdict.first_stranger.Kinds.ps verdict.first_stranger.Kinds.r verdict.first_stranger.Reads.Pre verdict.first_stranger.Reads.Post
+first-stranger κs a pre x y v w p q = (by-equation p q, refl)
 
-pub counted : (rows marks : List ℕ) (l : Layout) → OneAnswer (λ r. r ≡ countedAs l (total (keysAt rows marks 64 0)))
-counted rows marks l = by-equation (countedAs l (total (keysAt rows marks 64 0)))
+pub counted : OneOutcome verdict.counted.Kinds.ps verdict.counted.Kinds.r verdict.counted.Reads.Pre verdict.counted.Reads.Post
+counted κs a pre x y v w p q = (by-equation p q, refl)

@@ -19,6 +19,11 @@ acceptedWith l t = answer.Accepted (record { layout = l; transitions = t })
 abbrev pub refusedAt : ℕ → ℕ → Judged
 refusedAt number place = answer.Refused (refusal number place)
 
+-- the answer is a refusal
+abbrev pub IsRefusal : Judged → Type 0
+IsRefusal (answer.Accepted a) = ⊥
+IsRefusal (answer.Refused x) = Unit {0}
+
 -- a judgement of the formula of words laid out so, as an answer
 abbrev pub answerOf : Layout → Judgement → Judged
 answerOf l (accepted v n s t) = acceptedWith l t

@@ -146,7 +146,7 @@ module _ (t : ℕ) where
       let i2 = l .before .before .before .before .before .before .before in
       let s = i2 .before .before .before .before .before in (
         omega (arith, s .pre .0, i2 .if2 .left),
-        taking-asks (l .loop .inv) (lt .loop-test .taken) (k .keys-of .ensures .0) (to .total-of .ensures) (tu .turn-of .ensures) (s .pre .1 .room),
+        taking-asks (l .loop .inv) (lt .loop-test .taken) (k .keys-of .ensures .0) (to .total-of .ensures) (tu .turn-of .ensures) (s .pre .1 .room) (s .pre .1 .size),
       )
 
   end-of-requires : lts.Need-end-of-requires (cs t) (here t) keep.Post Inv μ-loop
