@@ -4,7 +4,7 @@ use Prim.Native.Nat.{ℕ, _≤_}
 use native.Mathlib.Omega.{arith}
 use mathlib.Core.Path.{_≡_, refl, sym, subst, _∙_}
 use mathlib.Core.Bool.{Bool, true, false, cond}
-use mathlib.Core.Logic.{_⊎_, inl, inr}
+use mathlib.Core.Logic.{inl, inr}
 use mathlib.Core.List.{List, map}
 use lib.Dec.{eqb, ltb, leb}
 use lib.ListN.{length}
@@ -16,7 +16,7 @@ use Rattle.strategy.specs.Judge.{judgedOf}
 use Rattle.filling.specs.Filling.{Outcome, refuses, fills, unlessShort}
 use Rattle.answers.specs.Requests.{judgeOf, judgeAnswer, keyOf, marksOf, assignedOf, reported, outcomeOf, ofTransition, orderOutcome}
 use Rattle.nocturenc.specs.Packed.{ReadRefusal, AnswerPacked, FillsPacked, packedAnswer, packedFilled}
-use Rattle.demands.specs.Allowed.{JudgeAnswers, Request, OrderAnswers, TransitionAnswers, AssignmentsAnswers, refusalNumber, refusalPlace}
+use Rattle.demands.specs.Allowed.{Request, OrderAnswers, TransitionAnswers, AssignmentsAnswers, refusalNumber}
 use Rattle.demands.specs.Demands.{JudgeGives, OrderGives, TransitionGives, IsAnswer, Answered, Demand1}
 use Rattle.demands.proofs.Contracts.{judge-allows, order-allows, transition-allows, assignments-allow, asks-nothing}
 use Rattle.demands.proofs.RefusalNumbers.{AnswerGives, judged-gives}

@@ -2,7 +2,7 @@
 -- the labels of the k-th key are the chosen labels of any branch of its class, and these can be carried out.
 use Prim.Native.Nat.{ℕ, _<_}
 use native.Mathlib.Omega.{arith}
-use mathlib.Core.Path.{_≡_, refl, sym, ap, subst, _∙_}
+use mathlib.Core.Path.{_≡_, refl, sym, subst, _∙_}
 use mathlib.Core.Bool.{true}
 use mathlib.Core.List.{List, map, List·Memᴰ}
 use lib.ListN.{length, length-map}
@@ -14,7 +14,6 @@ use Rattle.paper.specs.Before.{before}
 use Rattle.paper.specs.Order.{OrderOf}
 use Rattle.paper.specs.Strategy.{Strategy}
 use Rattle.paper.specs.Transition.{key, sameKey, class, keys}
-use Rattle.paper.specs.Carry.{Carried, unset}
 use Rattle.paper.proofs.Bools.{same-answer}
 use Rattle.paper.proofs.Lists.{of-those}
 use Rattle.paper.proofs.Labels.{mem-has}
@@ -37,7 +36,7 @@ use Rattle.nocturenc.specs.Packed.{AnswerPacked}
 use Rattle.demands.specs.Allowed.{variableCount, chosenCount, transitionCount}
 use Rattle.demands.specs.Demands.{Counts, keyOf, reported, IsAssignments, CarriedOut}
 use Rattle.demands.proofs.Contracts.{order-allows, assignments-allow}
-use Rattle.demands.proofs.Judged.{acceptable, counts-read}
+use Rattle.demands.proofs.Judged.{counts-read}
 use Rattle.demands.proofs.Filled.{fills-front, refuses-so, order-given, order-short, transition-given, transition-short, transition-absent}
 
 -- labels written as words and read again

@@ -11,14 +11,13 @@ use Rattle.paper.specs.Transition.{keys}
 use Rattle.table.specs.declared.Layout.{Layout}
 use Rattle.table.specs.declared.Checked.{Checked}
 use Rattle.table.specs.declared.Checked.the-variants.{Sound, Refused}
-use Rattle.table.specs.Table.{checked, chosenIn}
+use Rattle.table.specs.Table.{chosenIn}
 use Rattle.written.specs.Written.{Table, Within, written}
 use Rattle.written.specs.Tables.{tableIn, layoutOf}
 use Rattle.written.proofs.Tables.{one-table}
 use Rattle.verdict.specs.declared.Accepted.{Accepted}
 use Rattle.verdict.specs.declared.Judged.{Judged}
 use Rattle.verdict.specs.declared.Judged.the-variants as judged
-use Rattle.verdict.specs.Verdict.{acceptedWith}
 use Rattle.strategy.specs.Judge.{judgedOf, AcceptedSo}
 use Rattle.strategy.proofs.Exactly.{accepted-so, accepted-exactly}
 use Rattle.answers.specs.Requests.{judgeOf, judgeAnswer}

@@ -8,4 +8,5 @@ pub mod Slices
 pub mod Listed
 pub mod Carried
 pub mod Demands
+pub mod Example
 pub mod Cases

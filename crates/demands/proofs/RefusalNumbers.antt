@@ -1,7 +1,7 @@
 -- Which refusal numbers the judgement gives: a table's own checks give 1 to 9, and the checks of the proposal 10 to 14.
-use Prim.Native.Nat.{ℕ, _-_, _*_, _≤_}
+use Prim.Native.Nat.{ℕ, _-_, _*_}
 use native.Mathlib.Omega.{arith}
-use mathlib.Core.Path.{_≡_, refl, sym, subst}
+use mathlib.Core.Path.{_≡_, subst}
 use mathlib.Core.Bool.{Bool, true, false, cond, _||_}
 use mathlib.Core.List.{List, [], _∷_, map}
 use lib.Dec.{ltb, eqb}
@@ -19,8 +19,6 @@ use Rattle.sections.specs.declared.Step.{Step}
 use Rattle.sections.specs.declared.Step.the-variants.{Next, Halt}
 use Rattle.sections.specs.Sections.{halt, andThen, start, openAt, variablesAt, readsAt, rowsAt, strategyAt, endAt}
 use Rattle.table.specs.declared.Layout.{Layout}
-use Rattle.table.specs.declared.Checked.{Checked}
-use Rattle.table.specs.declared.Checked.the-variants.{Sound, Refused}
 use Rattle.table.specs.Table.{partAt, readsOf, sections, checked}
 use Rattle.table.specs.Table as Table
 use Rattle.written.specs.Tables.{formulaIn}
@@ -44,41 +42,41 @@ gives-or true x y g h = g
 gives-or false x y g h = h
 
 -- a check that halts with this number, and then what follows
-check : (b : Bool) (number place : ℕ) (next : Step) → 1 ≤ number → number ≤ 14 → StepGives next → StepGives (cond b (halt number place) next)
-check b number place next low high h = gives-or b (halt number place) next (low, high) h
+check : (b : Bool) (number place : ℕ) (next : Step) → JudgeGives number → StepGives next → StepGives (cond b (halt number place) next)
+check b number place next g h = gives-or b (halt number place) next g h
 
 open-gives : (part : List ℕ) (c : Cursor) (low high width : ℕ) → StepGives (openAt part c low high width)
 unfolding openAt
 open-gives part c low high width =
-    check (eqb (length part) 0) 1 _ _ (omega arith) (omega arith)
-    (check (ltb (getD part 0 0) low || ltb high (getD part 0 0)) 2 _ _ (omega arith) (omega arith)
-    (check (ltb (length part - 1) (getD part 0 0 * width)) 1 _ _ (omega arith) (omega arith) tt))
+    check (eqb (length part) 0) 1 _ _ (omega arith, omega arith)
+    (check (ltb (getD part 0 0) low || ltb high (getD part 0 0)) 2 _ _ (omega arith, omega arith)
+    (check (ltb (length part - 1) (getD part 0 0 * width)) 1 _ _ (omega arith, omega arith) tt))
 
 variables-give : (part : List ℕ) (c : Cursor) → StepGives (variablesAt part c)
 unfolding variablesAt
 variables-give part c = gives-then (openAt part c 1 1024 1) _ (open-gives part c 1 1024 1) (λ d.
-    check (ltb (first (falls (drop 1 part)) (d .count)) (d .count)) 4 _ _ (omega arith) (omega arith) tt)
+    check (ltb (first (falls (drop 1 part)) (d .count)) (d .count)) 4 _ _ (omega arith, omega arith) tt)
 
 reads-give : (part : List ℕ) (c : Cursor) → StepGives (readsAt part c)
 unfolding readsAt
 reads-give part c = gives-then (openAt part c 0 8192 1) _ (open-gives part c 0 8192 1) (λ d.
-    check (ltb (first (beyond (drop 1 part) (c .variables)) (d .count)) (d .count)) 5 _ _ (omega arith) (omega arith) tt)
+    check (ltb (first (beyond (drop 1 part) (c .variables)) (d .count)) (d .count)) 5 _ _ (omega arith, omega arith) tt)
 
 rows-give : (part reads : List ℕ) (c : Cursor) → StepGives (rowsAt part reads c)
 unfolding rowsAt
 rows-give part reads c = gives-then (openAt part c 1 4096 4) _ (open-gives part c 1 4096 4) (λ d.
-    check (ltb (first (breaksRules (drop 1 part) reads (c .variables) (d .count)) (d .count)) (d .count)) 6 _ _ (omega arith) (omega arith)
-    (check (ltb (takenBefore (drop 1 part) (d .count)) (c .reads)) 7 _ _ (omega arith) (omega arith)
-    (check (ltb (first (isDeep (drop 1 part)) (d .count)) (d .count)) 8 _ _ (omega arith) (omega arith) tt)))
+    check (ltb (first (breaksRules (drop 1 part) reads (c .variables) (d .count)) (d .count)) (d .count)) 6 _ _ (omega arith, omega arith)
+    (check (ltb (takenBefore (drop 1 part) (d .count)) (c .reads)) 7 _ _ (omega arith, omega arith)
+    (check (ltb (first (isDeep (drop 1 part)) (d .count)) (d .count)) 8 _ _ (omega arith, omega arith) tt)))
 
 strategy-gives : (part : List ℕ) (c : Cursor) → StepGives (strategyAt part c)
 unfolding strategyAt
 strategy-gives part c = gives-then (openAt part c 0 4096 1) _ (open-gives part c 0 4096 1) (λ d.
-    check (ltb (first (λ k. beyond (drop 1 part) (c .rows) k || falls (drop 1 part) k) (d .count)) (d .count)) 9 _ _ (omega arith) (omega arith) tt)
+    check (ltb (first (λ k. beyond (drop 1 part) (c .rows) k || falls (drop 1 part) k) (d .count)) (d .count)) 9 _ _ (omega arith, omega arith) tt)
 
 end-gives : (present : ℕ) (c : Cursor) → StepGives (endAt present c)
 unfolding endAt
-end-gives present c = check (ltb (c .at) present) 3 _ _ (omega arith) (omega arith) tt
+end-gives present c = check (ltb (c .at) present) 3 _ _ (omega arith, omega arith) tt
 
 sections-give : (words : List ℕ) → StepGives (sections words)
 unfolding sections
