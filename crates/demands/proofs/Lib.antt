@@ -1,3 +1,12 @@
+pub mod Contracts
+pub mod RefusalNumbers
+pub mod Answered
+pub mod Judged
+pub mod Filled
+pub mod Differ
 pub mod Slices
+pub mod Listed
+pub mod Carried
 pub mod Demands
+pub mod Example
 pub mod Cases

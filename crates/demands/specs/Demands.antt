@@ -1,80 +1,156 @@
--- The mission's demands over any words: what the requests answer (crates/answers/specs/Requests.antt), in the terms of document
--- 001; proofs/Demands.antt proves them.
-use Prim.Native.Nat.{ℕ, _<_, _≤_}
+-- The mission's demands. Each is about whatever the four exported functions may answer under their own contracts (specs/Allowed.antt),
+-- for any words, any k and any lent slice, in the terms of document 001 (crates/paper/specs) and of the words that write a table
+-- (crates/written/specs/Written.antt). proofs/Demands.antt proves `Demand1`, `Demand2` and `Demand3`.
+use Prim.Native.Nat.{ℕ, _+_, _*_, _^_, _<_, _≤_}
 use mathlib.Core.Path.{_≡_}
-use mathlib.Core.Logic.{_↔_}
-use mathlib.Core.List.{List, map, List·Memᴰ}
-use lib.ListN.{length}
+use mathlib.Core.Bool.{cond}
+use mathlib.Core.Logic.{_↔_, _⊎_}
+use mathlib.Core.List.{List, [], map, List·Memᴰ}
+use lib.ListN.{length, getD, take, drop}
 use Rattle.paper.specs.declared.Label.{Label}
 use Rattle.paper.specs.Lists.{those}
-use Rattle.paper.specs.Formula.{has}
+use Rattle.paper.specs.Formula.{ℓ, has, Formula, labels}
 use Rattle.paper.specs.Branch.{branches}
+use Rattle.paper.specs.Before.{before}
+use Rattle.paper.specs.Order.{order}
 use Rattle.paper.specs.Strategy.{Strategy}
-use Rattle.paper.specs.Transition.{sliceBy, class, keys, transition}
+use Rattle.paper.specs.Transition.{sliceBy, class, isKept, keys, transition}
 use Rattle.paper.specs.Meaning.{Meaning, True}
 use Rattle.paper.specs.Carry.{Carried, unset}
 use Rattle.paper.specs.Statements.{KeysAreListed}
-use Rattle.table.specs.declared.Layout.{Layout}
-use Rattle.sections.specs.declared.Refusal.{Refusal}
-use Rattle.table.specs.declared.Checked.the-variants.{Sound}
-use Rattle.table.specs.Table.{checked}
-use Rattle.written.specs.Tables.{formulaIn}
+use Rattle.written.specs.Written.{Table, Within, written}
 use Rattle.marks.specs.Marks.{isMarked}
-use Rattle.strategy.specs.Judge.{proposalIn}
-use Rattle.filling.specs.declared.Filled.the-variants as filled
-use Rattle.filling.specs.Filling.{Outcome, refuses, fills, Fills}
-use Rattle.answers.specs.declared.Counts.{Counts}
-use Rattle.answers.specs.declared.Answer.{Answer}
-use Rattle.answers.specs.declared.Answer.the-variants as answer
-use Rattle.answers.specs.Requests.{judgeOf, orderOf, transitionOf, assignmentsOf, reported, keyOf, marksOf, assignedOf}
+use Rattle.demands.specs.Allowed.{JudgeAnswers, Request, OrderAnswers, TransitionAnswers, AssignmentsAnswers, AsksNothing}
+use Rattle.demands.specs.Allowed.{refusalNumber, refusalPlace, variableCount, rowCount, chosenCount, transitionCount}
 
--- Demand 1: every request has an answer, by its contract, which asks nothing of the caller; one that refuses leaves every lent
--- word or byte as it was.
-abbrev pub RefusalWritesNothing : Type 0
-RefusalWritesNothing = (o : Outcome) (lent left : List ℕ) (x : Refusal) → Fills o lent left (filled.Refused x) → left ≡ lent
+-- Demand 1. Every answer is an acceptance or one refusal, and a refusal writes nothing.
 
--- the acceptance of words laid out so, with t transitions
-abbrev pub acceptance : Layout → ℕ → Answer
-acceptance l t = answer.Accepted (record { variables = l .variables; rows = l .rows; chosen = l .chosen; transitions = t })
+-- The refusal numbers that a request can give (document 01: "15 to 18 come only from the requests that they name"). 17 is the
+-- lister's.
+abbrev pub JudgeGives : ℕ → Type 0
+JudgeGives n = (1 ≤ n) × (n ≤ 14)
 
-module _ (words : List ℕ) (l : Layout) where
-  -- the distinct keys of the formula and the proposal that the words write
-  abbrev pub keysIn : List (List Label)
-  keysIn = keys (formulaIn words l) (proposalIn words l)
+abbrev pub OrderGives : ℕ → Type 0
+OrderGives n = JudgeGives n ⊎ (n ≡ 16)
 
-  -- Demand 2, of sound words: accepted exactly if the proposal is an assignment strategy with at most 65,535 transitions.
-  pub record JudgedExactly : Type 0 where
-    pub accepted : (judgeOf words ≡ acceptance l (length keysIn)) ↔ (Strategy (l .variables) (formulaIn words l) (proposalIn words l) × (length keysIn ≤ 65535))
-    pub only-so : (c : Counts) → judgeOf words ≡ answer.Accepted c → answer.Accepted c ≡ acceptance l (length keysIn)
+abbrev pub TransitionGives : ℕ → Type 0
+TransitionGives n = JudgeGives n ⊎ ((n ≡ 15) ⊎ ((n ≡ 18) ⊎ (n ≡ 16)))
 
-  -- Demand 2, of accepted words: for each number below the count one transition, in the order of the keys, which are the branches'
-  -- keys, all, each once; the formula sliced by the labels whose byte is 1 is that of Definition 5; and no transition more.
-  pub record TransitionsListed : Type 0 where
-    pub listed : KeysAreListed (formulaIn words l) (proposalIn words l)
-    pub each : (k room : ℕ) → k < length keysIn → l .rows ≤ room → transitionOf words k room ≡ fills (marksOf words l k)
-    pub sliced : (k : ℕ) → k < length keysIn
-        → sliceBy (λ i. isMarked (marksOf words l k) (i .0)) (formulaIn words l) ≡ transition (formulaIn words l) (proposalIn words l) (keyOf words l k)
-    pub no-more : (k room : ℕ) → length keysIn ≤ k → transitionOf words k room ≡ refuses 15 (length keysIn)
+-- the answer is an acceptance, or a refusal's number and place and nothing beside them
+abbrev pub IsAnswer : (ℕ → Type 0) → ℕ → Type 0
+IsAnswer Gives r = (refusalNumber r ≡ 0) ⊎ (Gives (refusalNumber r) × (r ≡ refusalNumber r * 2 ^ 56 + refusalPlace r))
 
-  -- Demand 3, first half, of accepted words: the order request gives the reported order; the chosen assignments of any branch can
-  -- be carried out in it from nothing set; and those of the branches of class k are what the assignments request gives.
-  pub record CarriedOutInOrder : Type 0 where
-    pub order : (room : ℕ) → l .chosen ≤ room → orderOf words room ≡ fills (map (λ i. i .0) (reported words l))
-    pub carried : (b : List Label) → List·Memᴰ b (branches (formulaIn words l))
-        → Carried (l .variables) (formulaIn words l) unset (those (has b) (reported words l))
-    pub assigned : (k room : ℕ) → k < length keysIn → l .variables ≤ room → assignmentsOf words k room ≡ fills (assignedOf words l k)
-    pub of-branch : (k : ℕ) → k < length keysIn → (b : List Label) → List·Memᴰ b (class (formulaIn words l) (proposalIn words l) (keyOf words l k))
-        → those (has (keyOf words l k)) (reported words l) ≡ those (has b) (reported words l)
+-- whatever a request that fills answers to the words, and leaves
+pub record Answered (words : List ℕ) (Gives : ℕ → Type 0) (request : Request) : Type 0 where
+  pub is-answer : (lent left : List ℕ) (r : ℕ) → request lent left r → IsAnswer Gives r
+  pub refusal-writes-nothing : (lent left : List ℕ) (r : ℕ) → request lent left r → 1 ≤ refusalNumber r → left ≡ lent
+  -- the table is judged first, and what nocturenc_judge refuses is refused alike
+  pub judged-first : (j : ℕ) → JudgeAnswers words j → 1 ≤ refusalNumber j → (lent left : List ℕ) (r : ℕ) → request lent left r → r ≡ j
 
-  -- Demand 3, second half: under every meaning the formula is true exactly if at least one listed transition is.
-  abbrev pub TrueByTransitions : Type 0
-  TrueByTransitions = (m : Meaning) (xs : List ℕ) → True m xs (formulaIn words l)
-      ↔ ((k : ℕ) × (k < length keysIn) × True m xs (transition (formulaIn words l) (proposalIn words l) (keyOf words l k)))
+pub record Demand1 : Type 0 where
+  pub asks-nothing : AsksNothing
+  pub judge : (words : List ℕ) (r : ℕ) → JudgeAnswers words r → IsAnswer JudgeGives r
+  pub order : (words : List ℕ) → Answered words OrderGives (OrderAnswers words)
+  pub transition : (words : List ℕ) (k : ℕ) → Answered words TransitionGives (TransitionAnswers words k)
+  pub assignments : (words : List ℕ) (k : ℕ) → Answered words TransitionGives (AssignmentsAnswers words k)
 
--- Demand 2, of any words: accepted with the counts c exactly if they are sound, the proposal is an assignment strategy with at most
--- 65,535 transitions, and c are V, N, S and the number of transitions.
-abbrev pub AnyWordsJudged : List ℕ → Counts → Type 0
-AnyWordsJudged words c =
-    (judgeOf words ≡ answer.Accepted c)
-    ↔ ((l : Layout) × (checked words ≡ Sound l) × Strategy (l .variables) (formulaIn words l) (proposalIn words l)
-    × (length (keysIn words l) ≤ 65535) × (answer.Accepted c ≡ acceptance l (length (keysIn words l))))
+-- What a request that fills does to a lent slice, whatever it answers: it refuses with this number and place and leaves the slice
+-- as it was; or it fills the first n words or bytes, so that P holds of them, answers n, and leaves those beyond as they were.
+abbrev pub Refuses : Request → ℕ → ℕ → List ℕ → Type 0
+Refuses request number place lent =
+    (left : List ℕ) (r : ℕ) → request lent left r → (refusalNumber r ≡ number) × (refusalPlace r ≡ place) × (left ≡ lent)
+
+abbrev pub Fills : Request → ℕ → (List ℕ → Type 0) → List ℕ → Type 0
+Fills request n P lent = (left : List ℕ) (r : ℕ) → request lent left r → (r ≡ n) × P (take n left) × (drop n left ≡ drop n lent)
+
+-- Demand 2, the judgement.
+
+-- the words write the table, whose strategy is an assignment strategy (document 001, Definition 4) with at most 65,535 transitions
+pub record Acceptable (words : List ℕ) (t : Table) : Type 0 where
+  pub within : Within t
+  pub writes : words ≡ written t
+  pub strategy : Strategy (length (t .names)) (t .formula) (t .strategy)
+  pub few : length (keys (t .formula) (t .strategy)) ≤ 65535
+
+-- V, N, S and the number of distinct keys
+pub record Counts (t : Table) (r : ℕ) : Type 0 where
+  pub variables : variableCount r ≡ length (t .names)
+  pub rows : rowCount r ≡ length (labels (t .formula))
+  pub chosen : chosenCount r ≡ length (t .strategy)
+  pub transitions : transitionCount r ≡ length (keys (t .formula) (t .strategy))
+
+-- whatever nocturenc_judge answers to any words
+pub record JudgedExactly (words : List ℕ) (r : ℕ) : Type 0 where
+  pub accepted : (refusalNumber r ≡ 0) ↔ ((t : Table) × Acceptable words t)
+  pub counts : (t : Table) → Acceptable words t → Counts t r
+
+-- Demand 2, the transitions; and demand 3.
+
+-- words that nocturenc_judge accepts with the answer r, and the table that they write
+pub record Accepted (words : List ℕ) (r : ℕ) (t : Table) : Type 0 where
+  pub answered : JudgeAnswers words r
+  pub accepted : refusalNumber r ≡ 0
+  pub within : Within t
+  pub writes : words ≡ written t
+
+-- the k-th key; the reported order
+abbrev pub keyOf : Table → ℕ → List Label
+keyOf t k = getD (keys (t .formula) (t .strategy)) k []
+
+abbrev pub reported : Table → List Label
+reported t = order (before (t .formula) (t .strategy)) (t .strategy)
+
+-- the formula sliced by the labels whose byte is 1
+abbrev pub sliceByBytes : Table → List ℕ → Formula
+sliceByBytes t bytes = sliceBy (λ l. isMarked bytes (l .0)) (t .formula)
+
+-- the bytes of transition k: 1 for a label that the class of the k-th key keeps, else 0; so their slice is that of Definition 5
+pub record IsTransition (t : Table) (k : ℕ) (bytes : List ℕ) : Type 0 where
+  pub bytes-are : bytes ≡ map (λ l. cond (isKept (t .formula) (t .strategy) (keyOf t k) l) 1 0) (labels (t .formula))
+  pub slice-is : sliceByBytes t bytes ≡ transition (t .formula) (t .strategy) (keyOf t k)
+
+-- the words of the assignments of transition k, as labels: they are the chosen labels of each branch of its class, in reported
+-- order, and carried out one by one from nothing set, each reads only what is set, none sets twice, and all are set at the end
+pub record IsAssignments (t : Table) (k : ℕ) (ws : List ℕ) : Type 0 where
+  pub of-branch : (b : List Label) → List·Memᴰ b (class (t .formula) (t .strategy) (keyOf t k)) → map ℓ ws ≡ those (has b) (reported t)
+  pub carried : Carried (length (t .names)) (t .formula) unset (map ℓ ws)
+
+-- For each number below the count one transition, in the order of the keys, which are the branches' keys, all, each once; no two
+-- numbers have the same bytes; the class of every branch stands at some number; and no transition more: 15, whatever the room.
+pub record TransitionsListed (words : List ℕ) (r : ℕ) (t : Table) : Type 0 where
+  pub listed : KeysAreListed (t .formula) (t .strategy)
+  pub each : (k : ℕ) → k < transitionCount r → (lent : List ℕ) → rowCount r ≤ length lent
+      → Fills (TransitionAnswers words k) (rowCount r) (IsTransition t k) lent
+  pub differ : (j k : ℕ) → j < transitionCount r → k < transitionCount r → (bytes : List ℕ) → IsTransition t j bytes → IsTransition t k bytes → j ≡ k
+  pub stands : (b : List Label) → List·Memᴰ b (branches (t .formula))
+      → (k : ℕ) × (k < transitionCount r) × List·Memᴰ b (class (t .formula) (t .strategy) (keyOf t k))
+  pub no-more : (k : ℕ) → transitionCount r ≤ k → (lent : List ℕ) → Refuses (TransitionAnswers words k) 15 (transitionCount r) lent
+  pub too-short : (k : ℕ) → k < transitionCount r → (lent : List ℕ) → length lent < rowCount r → Refuses (TransitionAnswers words k) 16 (rowCount r) lent
+
+pub record Demand2 : Type 0 where
+  pub judged : (words : List ℕ) (r : ℕ) → JudgeAnswers words r → JudgedExactly words r
+  pub transitions : (words : List ℕ) (r : ℕ) (t : Table) → Accepted words r t → TransitionsListed words r t
+
+-- Demand 3, first half: the order request gives the reported order; the very words that the assignments request gives for k are
+-- carried out, for each branch of class k, and every branch is of some class (`stands`).
+pub record CarriedOut (words : List ℕ) (r : ℕ) (t : Table) : Type 0 where
+  pub ordered : (lent : List ℕ) → chosenCount r ≤ length lent → Fills (OrderAnswers words) (chosenCount r) (λ ws. map ℓ ws ≡ reported t) lent
+  pub order-too-short : (lent : List ℕ) → length lent < chosenCount r → Refuses (OrderAnswers words) 16 (chosenCount r) lent
+  pub assigned : (k : ℕ) → k < transitionCount r → (lent : List ℕ) → variableCount r ≤ length lent
+      → Fills (AssignmentsAnswers words k) (variableCount r) (IsAssignments t k) lent
+  pub no-more : (k : ℕ) → transitionCount r ≤ k → (lent : List ℕ) → Refuses (AssignmentsAnswers words k) 15 (transitionCount r) lent
+  pub too-short : (k : ℕ) → k < transitionCount r → (lent : List ℕ) → length lent < variableCount r
+      → Refuses (AssignmentsAnswers words k) 16 (variableCount r) lent
+
+-- Demand 3, second half: under every meaning the formula is true exactly if its slice by the bytes of some transition is, where
+-- `bytes k` are those that the transition request leaves for k.
+abbrev pub TrueByTransitions : List ℕ → ℕ → Table → Type 0
+TrueByTransitions words r t =
+    (lent left : ℕ → List ℕ) (answer : ℕ → ℕ)
+    → ((k : ℕ) → k < transitionCount r → (rowCount r ≤ length (lent k)) × TransitionAnswers words k (lent k) (left k) (answer k))
+    → (m : Meaning) (xs : List ℕ)
+    → True m xs (t .formula) ↔ ((k : ℕ) × (k < transitionCount r) × True m xs (sliceByBytes t (take (rowCount r) (left k))))
+
+pub record Demand3 : Type 0 where
+  pub carried-out : (words : List ℕ) (r : ℕ) (t : Table) → Accepted words r t → CarriedOut words r t
+  pub true-by-transitions : (words : List ℕ) (r : ℕ) (t : Table) → Accepted words r t → TrueByTransitions words r t

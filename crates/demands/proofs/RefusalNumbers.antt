@@ -1,0 +1,130 @@
+-- Which refusal numbers the judgement gives: a table's own checks give 1 to 9, and the checks of the proposal 10 to 14.
+use Prim.Native.Nat.{ℕ, _-_, _*_}
+use native.Mathlib.Omega.{arith}
+use mathlib.Core.Path.{_≡_, subst}
+use mathlib.Core.Bool.{Bool, true, false, cond, _||_}
+use mathlib.Core.List.{List, [], _∷_, map}
+use lib.Dec.{ltb, eqb}
+use lib.ListN.{length, getD, drop}
+use Rattle.paper.specs.declared.Label.{Label}
+use Rattle.paper.specs.Formula.{Formula, labels}
+use Rattle.paper.specs.Judgement.{Judgement, accepted, refused, refuse, strangers, missed, doubled, onCycles, mostTransitions, judge}
+use Rattle.paper.specs.Transition.{keys}
+use Rattle.entries.specs.First.{first}
+use Rattle.entries.specs.Entries.{falls, beyond}
+use Rattle.rows.specs.Rows.{breaksRules, takenBefore, isDeep}
+use Rattle.sections.specs.declared.Refusal.{Refusal}
+use Rattle.sections.specs.declared.Cursor.{Cursor}
+use Rattle.sections.specs.declared.Step.{Step}
+use Rattle.sections.specs.declared.Step.the-variants.{Next, Halt}
+use Rattle.sections.specs.Sections.{halt, andThen, start, openAt, variablesAt, readsAt, rowsAt, strategyAt, endAt}
+use Rattle.table.specs.declared.Layout.{Layout}
+use Rattle.table.specs.Table.{partAt, readsOf, sections, checked}
+use Rattle.table.specs.Table as Table
+use Rattle.written.specs.Tables.{formulaIn}
+use Rattle.verdict.specs.declared.Judged.{Judged}
+use Rattle.verdict.specs.declared.Judged.the-variants as judged
+use Rattle.verdict.specs.Verdict.{answerOf}
+use Rattle.strategy.specs.Judge.{proposalIn, judgedOf, judgedAs}
+use Rattle.demands.specs.Demands.{JudgeGives}
+
+-- a step that goes on, or halts with a number that the judgement gives
+abbrev StepGives : Step → Type 0
+StepGives (Next c) = Unit {0}
+StepGives (Halt x) = JudgeGives (x .number)
+
+gives-then : (s : Step) (next : Cursor → Step) → StepGives s → ((c : Cursor) → StepGives (next c)) → StepGives (andThen s next)
+gives-then (Halt x) next g h = g
+gives-then (Next c) next g h = h c
+
+gives-or : (b : Bool) (x y : Step) → StepGives x → StepGives y → StepGives (cond b x y)
+gives-or true x y g h = g
+gives-or false x y g h = h
+
+-- a check that halts with this number, and then what follows
+check : (b : Bool) (number place : ℕ) (next : Step) → JudgeGives number → StepGives next → StepGives (cond b (halt number place) next)
+check b number place next g h = gives-or b (halt number place) next g h
+
+open-gives : (part : List ℕ) (c : Cursor) (low high width : ℕ) → StepGives (openAt part c low high width)
+unfolding openAt
+open-gives part c low high width =
+    check (eqb (length part) 0) 1 _ _ (omega arith, omega arith)
+    (check (ltb (getD part 0 0) low || ltb high (getD part 0 0)) 2 _ _ (omega arith, omega arith)
+    (check (ltb (length part - 1) (getD part 0 0 * width)) 1 _ _ (omega arith, omega arith) tt))
+
+variables-give : (part : List ℕ) (c : Cursor) → StepGives (variablesAt part c)
+unfolding variablesAt
+variables-give part c = gives-then (openAt part c 1 1024 1) _ (open-gives part c 1 1024 1) (λ d.
+    check (ltb (first (falls (drop 1 part)) (d .count)) (d .count)) 4 _ _ (omega arith, omega arith) tt)
+
+reads-give : (part : List ℕ) (c : Cursor) → StepGives (readsAt part c)
+unfolding readsAt
+reads-give part c = gives-then (openAt part c 0 8192 1) _ (open-gives part c 0 8192 1) (λ d.
+    check (ltb (first (beyond (drop 1 part) (c .variables)) (d .count)) (d .count)) 5 _ _ (omega arith, omega arith) tt)
+
+rows-give : (part reads : List ℕ) (c : Cursor) → StepGives (rowsAt part reads c)
+unfolding rowsAt
+rows-give part reads c = gives-then (openAt part c 1 4096 4) _ (open-gives part c 1 4096 4) (λ d.
+    check (ltb (first (breaksRules (drop 1 part) reads (c .variables) (d .count)) (d .count)) (d .count)) 6 _ _ (omega arith, omega arith)
+    (check (ltb (takenBefore (drop 1 part) (d .count)) (c .reads)) 7 _ _ (omega arith, omega arith)
+    (check (ltb (first (isDeep (drop 1 part)) (d .count)) (d .count)) 8 _ _ (omega arith, omega arith) tt)))
+
+strategy-gives : (part : List ℕ) (c : Cursor) → StepGives (strategyAt part c)
+unfolding strategyAt
+strategy-gives part c = gives-then (openAt part c 0 4096 1) _ (open-gives part c 0 4096 1) (λ d.
+    check (ltb (first (λ k. beyond (drop 1 part) (c .rows) k || falls (drop 1 part) k) (d .count)) (d .count)) 9 _ _ (omega arith, omega arith) tt)
+
+end-gives : (present : ℕ) (c : Cursor) → StepGives (endAt present c)
+unfolding endAt
+end-gives present c = check (ltb (c .at) present) 3 _ _ (omega arith, omega arith) tt
+
+sections-give : (words : List ℕ) → StepGives (sections words)
+unfolding sections
+sections-give words =
+    gives-then (variablesAt words start) _ (variables-give words start)
+    (λ a. gives-then (readsAt (partAt words a) a) _ (reads-give (partAt words a) a)
+    (λ b. gives-then (rowsAt (partAt words b) (readsOf words b) b) _ (rows-give (partAt words b) (readsOf words b) b)
+    (λ c. gives-then (strategyAt (partAt words c) c) _ (strategy-gives (partAt words c) c)
+    (λ d. end-gives (length words) d))))
+
+-- a judgement that accepts, or refuses with such a number
+abbrev JudgementGives : Judgement → Type 0
+JudgementGives (accepted v n s t) = Unit {0}
+JudgementGives (refused number place) = JudgeGives number
+
+refuse-gives : (number : ℕ) (places : List ℕ) (next : Judgement) → JudgeGives number → JudgementGives next → JudgementGives (refuse number places next)
+refuse-gives number [] next g h = h
+refuse-gives number (place ∷ others) next g h = g
+
+judge-gives : (#V : ℕ) (f : Formula) (A : List Label) → JudgementGives (judge #V f A)
+judge-gives #V f A =
+    refuse-gives 10 (map (λ l. l .0) (strangers f A)) _ (omega arith, omega arith)
+    (refuse-gives 11 (map (λ v. v .0) (missed #V f A)) _ (omega arith, omega arith)
+    (refuse-gives 12 (map (λ v. v .0) (doubled #V f A)) _ (omega arith, omega arith)
+    (refuse-gives 13 (map (λ l. l .0) (onCycles f A)) _ (omega arith, omega arith) (last (ltb mostTransitions (length (keys f A)))))))
+  where
+    last : (b : Bool) → JudgementGives (cond b (refused 14 0) (accepted #V (length (labels f)) (length A) (length (keys f A))))
+    last true = (omega arith, omega arith)
+    last false = tt
+
+-- an answer to words
+abbrev pub AnswerGives : Judged → Type 0
+AnswerGives (judged.Accepted a) = Unit {0}
+AnswerGives (judged.Refused x) = JudgeGives (x .number)
+
+answers-give : (l : Layout) (j : Judgement) → JudgementGives j → AnswerGives (answerOf l j)
+answers-give l (accepted v n s t) g = tt
+answers-give l (refused number place) g = g
+
+pub judged-gives : (words : List ℕ) → AnswerGives (judgedOf words)
+unfolding judgedOf checked
+judged-gives words = go (sections words) (sections-give words)
+  where
+    go : (s : Step) → StepGives s → AnswerGives (judgedAs words (Table.answerOf s))
+    go (Halt x) g = g
+    go (Next c) g =
+        let l = Table.layout (c .variables) (c .reads) (c .rows) (c .count) in
+        answers-give l (judge (l .variables) (formulaIn words l) (proposalIn words l)) (judge-gives (l .variables) (formulaIn words l) (proposalIn words l))
+
+pub refused-number : (words : List ℕ) (x : Refusal) → judgedOf words ≡ judged.Refused x → JudgeGives (x .number)
+refused-number words x e = subst AnswerGives e (judged-gives words)
