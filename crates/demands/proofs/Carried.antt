@@ -77,7 +77,7 @@ module _ (words : List ℕ) (a : Accepted) (e : judgedOf words ≡ judged.Accept
   assigned-many k h = counts .variables ∙ known .names-there ∙ sym (amounts words a e .assignments-are k h)
 
   is-order : OrderOf (before f A) A (reported t)
-  is-order = reported-is-order (a .layout .variables) f A (known .well-formed) (strategic .acyclic)
+  is-order = reported-is-order (a .layout .variables) f A (strategic .acyclic)
 
   -- on a branch of class k the chosen labels are those of key k
   on-branch : (k : ℕ) (b : List Label) → List·Memᴰ b (class f A (keyOf t k)) → those (has (keyOf t k)) (reported t) ≡ those (has b) (reported t)
