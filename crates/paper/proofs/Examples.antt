@@ -113,4 +113,4 @@ pub numbering : Numbering
 numbering = record { first-decides = refl; not-the-last = refl; then-the-next = refl; not-itself = refl; keys-of-square = refl }
 
 pub places : Places
-places = record { strangers-lowest = refl; missed-lowest = refl; doubled-lowest = refl; on-cycle-lowest = refl }
+places = record { strangers-lowest = refl; missed-lowest = refl; doubled-lowest = refl; on-cycle-lowest = refl; not-hanging-on-one = refl }

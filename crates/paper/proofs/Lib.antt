@@ -1,9 +1,8 @@
--- the examples first: where a definition is changed, they say so before the theorems do
-pub mod Examples
 pub mod Bools
 pub mod Lists
 pub mod Outcome
 pub mod Labels
+pub mod Examples
 pub mod Distinct
 pub mod Variables
 pub mod BoolForm

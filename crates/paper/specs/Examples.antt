@@ -183,3 +183,5 @@ pub record Places : Type 0 where
   pub missed-lowest : judge 2 crowded [] ≡ refused 11 0
   pub doubled-lowest : judge 2 crowded (numbered (1 ∷ 3 ∷ 5 ∷ 7 ∷ [])) ≡ refused 12 0
   pub on-cycle-lowest : judge 2 crowded (numbered (1 ∷ 5 ∷ [])) ≡ refused 13 1
+  -- not: a label that hangs on a cycle, as 1 in y' in s(x) and x' in s(x)
+  pub not-hanging-on-one : judge 2 (conjunction (ℓ 0) (assign 1 1 (0 ∷ []) ⨾ only (assign 3 0 (0 ∷ [])))) (numbered (1 ∷ 3 ∷ [])) ≡ refused 13 3
