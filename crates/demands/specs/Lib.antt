@@ -1,2 +1,5 @@
 pub mod Demands
 pub mod Cases
+pub mod SectionCases
+pub mod RowCases
+pub mod RequestCases

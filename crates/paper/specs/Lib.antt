@@ -14,3 +14,4 @@ pub mod Judgement
 pub mod Structure
 pub mod Statements
 pub mod Cases
+pub mod FurtherCases
