@@ -1,10 +1,20 @@
--- Document 01's starred cases ("Both sides of each edge"), as words: for each what the requests answer, refusals included. The
--- document says the refusals, the number of transitions and what they keep; the rest follows from its words. Marks are one for a
--- label: 1 if it is kept, else 0. proofs/Cases.antt proves that the definitions answer so.
+-- Cases as words, and what the requests answer to each, refusals included. Document 01's starred cases ("Both sides of each edge") are
+-- one list: the formulas and answers of crates/paper/specs/Cases.antt, here as the words that write them, and the case of no words.
+-- The further formulas of crates/paper/specs/FurtherCases.antt are taken in the same way. proofs/Cases.antt proves that the
+-- definitions answer so.
 use Prim.Native.Nat.{ℕ}
-use mathlib.Core.List.{List, [], _∷_, map}
+use mathlib.Core.Bool.{cond}
+use mathlib.Core.List.{List, [], _∷_, _++_, map}
+use lib.Dec.{eqb}
+use lib.ListN.{length}
+use Rattle.paper.specs.Lists.{anyOf}
+use Rattle.paper.specs.Judgement.{Judgement, accepted, refused}
+use Rattle.paper.specs.Cases.{Line, proposal, starredFormulas}
+use Rattle.paper.specs.Cases as paper
+use Rattle.paper.specs.FurtherCases.{firstChecks, lowestShows, beforeOthers, numberedByKeys}
 use Rattle.net.specs.Prior.{upTo}
 use Rattle.sections.specs.Sections.{refusal}
+use Rattle.written.specs.Written.{written}
 use Rattle.filling.specs.Filling.{Outcome, refuses, fills}
 use Rattle.answers.specs.declared.Answer.{Answer}
 use Rattle.answers.specs.declared.Answer.the-variants as answer
@@ -34,70 +44,52 @@ listing words = record {
   assigned = map (λ k. assignmentsOf words k 4096) (upTo (countIn (judgeOf words)));
 }
 
--- an acceptance with V, N, S and the count, the order, and of each transition the marks and the assignments; a refusal
-abbrev pub accepts : ℕ → ℕ → ℕ → ℕ → List ℕ → List (List ℕ) → List (List ℕ) → Listing
-accepts v n s t order kept assigned = record {
-  judged = answer.Accepted (record { variables = v; rows = n; chosen = s; transitions = t });
-  ordered = fills order;
-  kept = map fills kept;
-  assigned = map fills assigned;
-}
-
 abbrev pub refusesWith : ℕ → ℕ → Listing
 refusesWith number place = record { judged = answer.Refused (refusal number place); ordered = refuses number place; kept = []; assigned = [] }
 
+-- words that are refused
+abbrev pub faulty : List ℕ → ℕ → ℕ → Case
+faulty words number place = record { words = words; expected = refusesWith number place }
+
+-- a row's four words; words section by section, each after its count: names, reads, rows, strategy
+abbrev pub row : ℕ → ℕ → ℕ → ℕ → List ℕ
+row kind arg end from = kind ∷ arg ∷ end ∷ from ∷ []
+
+abbrev counted : List ℕ → List ℕ
+counted entries = length entries ∷ entries
+
+abbrev together : List (List ℕ) → List ℕ
+together [] = []
+together (ws ∷ others) = ws ++ together others
+
+abbrev pub table : List ℕ → List ℕ → List (List ℕ) → List ℕ → List ℕ
+table names reads rows strategy = counted names ++ counted reads ++ (length rows ∷ together rows) ++ counted strategy
+
+-- of n labels, 1 for a kept one, else 0
+abbrev marks : ℕ → List ℕ → List ℕ
+marks n keep = map (λ i. cond (anyOf (eqb i) keep) 1 0) (upTo n)
+
+-- a formula's answer, as the requests give it: the judgement, the order, and of each transition the marks and the assignments
+abbrev pub listed : Judgement → List ℕ → List Line → Listing
+listed (accepted v n s t) order lines = record {
+  judged = answer.Accepted (record { variables = v; rows = n; chosen = s; transitions = t });
+  ordered = fills order;
+  kept = map (λ l. fills (marks n (l .keep))) lines;
+  assigned = map (λ l. fills (l .assign)) lines;
+}
+listed (refused number place) order lines = refusesWith number place
+
+-- the words that write a formula with its names and its proposal
+abbrev pub wordsOf : paper.Case → List ℕ
+wordsOf c = written (record { names = c .names; formula = c .formula; strategy = proposal c })
+
+abbrev pub ofFormula : paper.Case → Case
+ofFormula c = record { words = wordsOf c; expected = listed (c .expected .judgement) (c .expected .order) (c .expected .transitions) }
+
+-- the starred cases, the last of them: No words: 1 at 0.
 abbrev pub starred : List Case
-starred =
-    record {
-      words =
-          2 ∷ 40 ∷ 300 ∷ 1 ∷ 0 ∷ 8 ∷ 3 ∷ 2 ∷ 8 ∷ 0 ∷ 2 ∷ 0 ∷ 3 ∷ 0 ∷ 1 ∷ 0 ∷ 3 ∷ 0 ∷ 4 ∷ 2 ∷ 8 ∷ 0 ∷ 2 ∷ 1 ∷ 6 ∷ 0 ∷ 1 ∷ 1 ∷ 6 ∷ 0 ∷ 2 ∷ 1 ∷ 8 ∷ 1 ∷ 1
-          ∷ 0 ∷ 8 ∷ 1 ∷ 3 ∷ 1 ∷ 4 ∷ 6 ∷ [];
-      expected =
-          accepts 2 8 3 2 (1 ∷ 4 ∷ 6 ∷ [])
-          ((0 ∷ 1 ∷ 0 ∷ 0 ∷ 1 ∷ 0 ∷ 0 ∷ 0 ∷ []) ∷ (0 ∷ 1 ∷ 0 ∷ 0 ∷ 0 ∷ 0 ∷ 1 ∷ 0 ∷ []) ∷ []) ((1 ∷ 4 ∷ []) ∷ (1 ∷ 6 ∷ []) ∷ []);
-    }
-    ∷ record {
-      words =
-          2 ∷ 40 ∷ 300 ∷ 1 ∷ 0 ∷ 8 ∷ 3 ∷ 2 ∷ 8 ∷ 0 ∷ 2 ∷ 0 ∷ 3 ∷ 0 ∷ 1 ∷ 0 ∷ 3 ∷ 0 ∷ 4 ∷ 2 ∷ 8 ∷ 0 ∷ 2 ∷ 1 ∷ 6 ∷ 0 ∷ 1 ∷ 1 ∷ 6 ∷ 0 ∷ 2 ∷ 1 ∷ 8 ∷ 1 ∷ 1
-          ∷ 0 ∷ 8 ∷ 1 ∷ 2 ∷ 1 ∷ 4 ∷ [];
-      expected = refusesWith 11 1;
-    }
-    ∷ record {
-      words =
-          2 ∷ 40 ∷ 300 ∷ 1 ∷ 0 ∷ 8 ∷ 3 ∷ 2 ∷ 8 ∷ 0 ∷ 2 ∷ 0 ∷ 3 ∷ 0 ∷ 1 ∷ 0 ∷ 3 ∷ 0 ∷ 4 ∷ 2 ∷ 8 ∷ 0 ∷ 2 ∷ 1 ∷ 6 ∷ 0 ∷ 1 ∷ 1 ∷ 6 ∷ 0 ∷ 2 ∷ 1 ∷ 8 ∷ 1 ∷ 1
-          ∷ 0 ∷ 8 ∷ 1 ∷ 4 ∷ 1 ∷ 2 ∷ 4 ∷ 6 ∷ [];
-      expected = refusesWith 10 2;
-    }
-    ∷ record { words = 1 ∷ 7 ∷ 1 ∷ 0 ∷ 2 ∷ 2 ∷ 0 ∷ 2 ∷ 0 ∷ 1 ∷ 1 ∷ 2 ∷ 0 ∷ 1 ∷ 0 ∷ []; expected = refusesWith 13 0 }
-    ∷ record {
-      words = 2 ∷ 40 ∷ 300 ∷ 2 ∷ 1 ∷ 0 ∷ 5 ∷ 3 ∷ 2 ∷ 5 ∷ 0 ∷ 2 ∷ 0 ∷ 3 ∷ 0 ∷ 1 ∷ 1 ∷ 3 ∷ 0 ∷ 2 ∷ 1 ∷ 5 ∷ 1 ∷ 1 ∷ 1 ∷ 5 ∷ 1 ∷ 2 ∷ 1 ∷ 3 ∷ [];
-      expected = refusesWith 13 1;
-    }
-    ∷ record {
-      words = 1 ∷ 7 ∷ 0 ∷ 5 ∷ 3 ∷ 2 ∷ 5 ∷ 0 ∷ 2 ∷ 0 ∷ 3 ∷ 0 ∷ 1 ∷ 0 ∷ 3 ∷ 0 ∷ 2 ∷ 0 ∷ 5 ∷ 0 ∷ 1 ∷ 0 ∷ 5 ∷ 0 ∷ 1 ∷ 1 ∷ [];
-      expected = accepts 1 5 1 1 (1 ∷ []) ((0 ∷ 1 ∷ 0 ∷ 1 ∷ 0 ∷ []) ∷ []) ((1 ∷ []) ∷ []);
-    }
-    ∷ record {
-      words = 1 ∷ 7 ∷ 0 ∷ 5 ∷ 3 ∷ 2 ∷ 5 ∷ 0 ∷ 2 ∷ 0 ∷ 3 ∷ 0 ∷ 1 ∷ 0 ∷ 3 ∷ 0 ∷ 2 ∷ 0 ∷ 5 ∷ 0 ∷ 1 ∷ 0 ∷ 5 ∷ 0 ∷ 2 ∷ 1 ∷ 3 ∷ [];
-      expected = refusesWith 12 0;
-    }
-    ∷ record { words = 1 ∷ 7 ∷ 0 ∷ 4 ∷ 4 ∷ 2 ∷ 4 ∷ 0 ∷ 2 ∷ 0 ∷ 3 ∷ 0 ∷ 1 ∷ 0 ∷ 3 ∷ 0 ∷ 0 ∷ 0 ∷ 4 ∷ 0 ∷ 1 ∷ 1 ∷ []; expected = refusesWith 11 0 }
-    ∷ record { words = 1 ∷ 7 ∷ 1 ∷ 0 ∷ 4 ∷ 5 ∷ 0 ∷ 4 ∷ 0 ∷ 1 ∷ 1 ∷ 2 ∷ 0 ∷ 2 ∷ 0 ∷ 4 ∷ 1 ∷ 1 ∷ 0 ∷ 4 ∷ 1 ∷ 1 ∷ 2 ∷ []; expected = refusesWith 13 2 }
-    ∷ record {
-      words = 1 ∷ 7 ∷ 1 ∷ 0 ∷ 6 ∷ 3 ∷ 2 ∷ 6 ∷ 0 ∷ 2 ∷ 0 ∷ 3 ∷ 0 ∷ 1 ∷ 0 ∷ 3 ∷ 0 ∷ 4 ∷ 2 ∷ 6 ∷ 0 ∷ 1 ∷ 0 ∷ 5 ∷ 0 ∷ 1 ∷ 1 ∷ 6 ∷ 0 ∷ 1 ∷ 1 ∷ [];
-      expected = accepts 1 6 1 1 (1 ∷ []) ((0 ∷ 1 ∷ 0 ∷ 0 ∷ 1 ∷ 1 ∷ []) ∷ []) ((1 ∷ []) ∷ []);
-    }
-    ∷ record {
-      words = 1 ∷ 7 ∷ 0 ∷ 6 ∷ 6 ∷ 0 ∷ 6 ∷ 0 ∷ 1 ∷ 0 ∷ 2 ∷ 0 ∷ 2 ∷ 0 ∷ 4 ∷ 0 ∷ 1 ∷ 0 ∷ 4 ∷ 0 ∷ 2 ∷ 0 ∷ 6 ∷ 0 ∷ 1 ∷ 0 ∷ 6 ∷ 0 ∷ 2 ∷ 2 ∷ 4 ∷ [];
-      expected = accepts 1 6 2 2 (2 ∷ 4 ∷ []) ((0 ∷ 0 ∷ 1 ∷ 0 ∷ 0 ∷ 0 ∷ []) ∷ (0 ∷ 0 ∷ 0 ∷ 0 ∷ 1 ∷ 0 ∷ []) ∷ []) ((2 ∷ []) ∷ (4 ∷ []) ∷ []);
-    }
-    ∷ record {
-      words =
-          4 ∷ 1 ∷ 2 ∷ 3 ∷ 4 ∷ 4 ∷ 3 ∷ 1 ∷ 0 ∷ 2 ∷ 23 ∷ 3 ∷ 2 ∷ 23 ∷ 0 ∷ 4 ∷ 2 ∷ 12 ∷ 0 ∷ 3 ∷ 2 ∷ 7 ∷ 0 ∷ 2 ∷ 0 ∷ 5 ∷ 0 ∷ 1 ∷ 1 ∷ 5 ∷ 0 ∷ 2 ∷ 2 ∷ 7 ∷ 1
-          ∷ 1 ∷ 0 ∷ 7 ∷ 1 ∷ 3 ∷ 2 ∷ 12 ∷ 1 ∷ 2 ∷ 2 ∷ 10 ∷ 1 ∷ 1 ∷ 1 ∷ 10 ∷ 1 ∷ 2 ∷ 0 ∷ 12 ∷ 2 ∷ 1 ∷ 0 ∷ 12 ∷ 2 ∷ 4 ∷ 2 ∷ 23 ∷ 2 ∷ 3 ∷ 2 ∷ 18 ∷ 2 ∷ 2
-          ∷ 1 ∷ 16 ∷ 2 ∷ 1 ∷ 1 ∷ 16 ∷ 2 ∷ 2 ∷ 3 ∷ 18 ∷ 3 ∷ 1 ∷ 0 ∷ 18 ∷ 3 ∷ 3 ∷ 2 ∷ 23 ∷ 3 ∷ 2 ∷ 3 ∷ 21 ∷ 3 ∷ 1 ∷ 1 ∷ 21 ∷ 3 ∷ 2 ∷ 1 ∷ 23 ∷ 4 ∷ 1 ∷ 0
-          ∷ 23 ∷ 4 ∷ 8 ∷ 3 ∷ 5 ∷ 8 ∷ 10 ∷ 14 ∷ 16 ∷ 19 ∷ 21 ∷ [];
-      expected = refusesWith 13 3;
-    }
-    ∷ record { words = []; expected = refusesWith 1 0 }
-    ∷ []
+starred = map ofFormula starredFormulas ++ (faulty [] 1 0 ∷ [])
+
+-- the cases of the judgement beside them
+abbrev pub further : List Case
+further = map ofFormula (firstChecks ++ lowestShows ++ beforeOthers ++ numberedByKeys)

@@ -8,7 +8,7 @@ use lib.Dec.{leb, ltb}
 use borrow.Author.Tests.{leb-true, ltb-true}
 use Rattle.paper.specs.Lists.{allOf}
 use Rattle.paper.specs.Formula.{Label, Variable, alike, Formula, labels, candidates, stars, Rising, WellFormed}
-use Rattle.paper.specs.Cases.{Case, answer, proposal, P, starredFormulas}
+use Rattle.paper.specs.Cases.{Case, variables, answer, proposal, P, starredFormulas}
 use Rattle.paper.proofs.Bools.{and-left, and-right}
 use Rattle.paper.proofs.Lists.{of-any, of-all}
 use Rattle.paper.proofs.Labels.{alike-eq}
@@ -45,8 +45,8 @@ module _ (#V : ℕ) where
             rw (alike-eq v w q) (ltb-true (w .0) #V (of-all isBelow (of-all (λ s. allOf isBelow (s .reads)) outside t) u));
       }
 
-pub starred-well-formed : (c : Case) → List·Memᴰ c starredFormulas → WellFormed (c .variables) (c .formula)
-starred-well-formed c t = of-well-formed (c .variables) (c .formula) (of-all (λ c. isWellFormed (c .variables) (c .formula)) {xs = starredFormulas} refl t)
+pub starred-well-formed : (c : Case) → List·Memᴰ c starredFormulas → WellFormed (variables c) (c .formula)
+starred-well-formed c t = of-well-formed (variables c) (c .formula) (of-all (λ c. isWellFormed (variables c) (c .formula)) {xs = starredFormulas} refl t)
 
 pub starred-proposals-rise : (c : Case) → List·Memᴰ c starredFormulas → Rising 0 (proposal c)
 starred-proposals-rise c t = of-rises 0 (proposal c) (of-all (λ c. rises 0 (proposal c)) {xs = starredFormulas} refl t)
