@@ -86,7 +86,8 @@ pub record JudgedExactly (words : List ℕ) (r : ℕ) : Type 0 where
 
 -- Demand 2, the transitions; and demand 3.
 
--- words that nocturenc_judge accepts with the answer r, and the table that they write
+-- words that nocturenc_judge accepts with the answer r, and the table that they write: there is one (`accepted` above), and no other
+-- (crates/written/specs/Tables.antt, `WrittenOnce`)
 pub record Accepted (words : List ℕ) (r : ℕ) (t : Table) : Type 0 where
   pub answered : JudgeAnswers words r
   pub accepted : refusalNumber r ≡ 0
@@ -115,8 +116,9 @@ pub record IsAssignments (t : Table) (k : ℕ) (ws : List ℕ) : Type 0 where
   pub of-branch : (b : List Label) → List·Memᴰ b (class (t .formula) (t .strategy) (keyOf t k)) → map ℓ ws ≡ those (has b) (reported t)
   pub carried : Carried (length (t .names)) (t .formula) unset (map ℓ ws)
 
--- For each number below the count one transition, in the order of the keys, which are the branches' keys, all, each once; no two
--- numbers have the same bytes; the class of every branch stands at some number; and no transition more: 15, whatever the room.
+-- For each number below the count one transition, in the order of the keys, which are the branches' keys, all, each once; different
+-- numbers have different bytes, so keep different labels; the class of every branch stands at some number; and there is no
+-- transition more: 15 at the count, whatever the room. Else 16 at N, where there is no room.
 pub record TransitionsListed (words : List ℕ) (r : ℕ) (t : Table) : Type 0 where
   pub listed : KeysAreListed (t .formula) (t .strategy)
   pub each : (k : ℕ) → k < transitionCount r → (lent : List ℕ) → rowCount r ≤ length lent
@@ -131,8 +133,8 @@ pub record Demand2 : Type 0 where
   pub judged : (words : List ℕ) (r : ℕ) → JudgeAnswers words r → JudgedExactly words r
   pub transitions : (words : List ℕ) (r : ℕ) (t : Table) → Accepted words r t → TransitionsListed words r t
 
--- Demand 3, first half: the order request gives the reported order; the very words that the assignments request gives for k are
--- carried out, for each branch of class k, and every branch is of some class (`stands`).
+-- Demand 3, first half: the order request gives the reported order, and the very words that the assignments request gives for k
+-- are the chosen labels of each branch of class k, and are carried out. Every branch is of some such class (`stands`).
 pub record CarriedOut (words : List ℕ) (r : ℕ) (t : Table) : Type 0 where
   pub ordered : (lent : List ℕ) → chosenCount r ≤ length lent → Fills (OrderAnswers words) (chosenCount r) (λ ws. map ℓ ws ≡ reported t) lent
   pub order-too-short : (lent : List ℕ) → length lent < chosenCount r → Refuses (OrderAnswers words) 16 (chosenCount r) lent
@@ -142,8 +144,8 @@ pub record CarriedOut (words : List ℕ) (r : ℕ) (t : Table) : Type 0 where
   pub too-short : (k : ℕ) → k < transitionCount r → (lent : List ℕ) → length lent < variableCount r
       → Refuses (AssignmentsAnswers words k) 16 (variableCount r) lent
 
--- Demand 3, second half: under every meaning the formula is true exactly if its slice by the bytes of some transition is, where
--- `bytes k` are those that the transition request leaves for k.
+-- Demand 3, second half: under every meaning the formula is true exactly if, for some k below the count, its slice by the bytes that
+-- the transition request leaves for k is true (Theorem 2). `left k` is what it leaves of the slice `lent k`, which has room.
 abbrev pub TrueByTransitions : List ℕ → ℕ → Table → Type 0
 TrueByTransitions words r t =
     (lent left : ℕ → List ℕ) (answer : ℕ → ℕ)
