@@ -71,7 +71,8 @@ module _ (words : List ℕ) (a : Accepted) (e : judgedOf words ≡ judged.Accept
 
   ordered-many : chosenCount r ≡ length order
   ordered-many =
-      counts .chosen ∙ length-map (chosenIn words (a .layout)) ℓ ∙ known .chosen-there ∙ sym (length-map (reported t) (λ (i : Label). i .0) ∙ amounts words a e .order-is)
+      counts .chosen ∙ length-map (chosenIn words (a .layout)) ℓ ∙ known .chosen-there
+      ∙ sym (length-map (reported t) (λ (i : Label). i .0) ∙ amounts words a e .order-is)
 
   assigned-many : (k : ℕ) → k < a .transitions → variableCount r ≡ length (assignedOf words (a .layout) k)
   assigned-many k h = counts .variables ∙ known .names-there ∙ sym (amounts words a e .assignments-are k h)
