@@ -168,6 +168,14 @@ def largest():
     return words_of(1024, reads, rows, common + arms), listing
 
 
+def longest():
+    """29,700 words, the most that a table has: every label is chosen, the root too, which is no candidate."""
+    rows = [(AND, 4095, 4096, 0)]
+    for label in range(1, 4096):
+        rows.append((STAR, 1024 if label <= 8 else 0, label + 1, 1024 * min(label - 1, 8)))
+    return words_of(1024, [*range(1024)] * 8, rows, range(4096)), ["refused 10 0"]
+
+
 def too_deep():
     """63 one-child conjunctions round a candidate: 8 at 64."""
     rows = [(AND, 1, 65, 0)] * 63 + [(CANDIDATE, 0, 65, 0), (STAR, 0, 65, 0)]
@@ -225,7 +233,7 @@ def main(arguments):
     browser = arguments[0]
     try:
         compared, worked_out = stored(browser, arguments[1:] != []), examples(browser)
-        for (words, listing), asked in ((largest(), (0, 1023)), (too_deep(), ()), (too_many(), ())):
+        for (words, listing), asked in ((largest(), (0, 1023)), (longest(), ()), (too_deep(), ()), (too_many(), ())):
             worked_out += check(browser, write_words(words), Table(words, {}), listing, asked)
     except Differs as differs:
         print("displays: %s" % differs)

@@ -87,7 +87,11 @@ impl Run {
             return Err(format!("{title}: {text}"));
         }
         if !output.status.success() || !output.stderr.is_empty() {
-            return Err(format!("{title}: {output:?}"));
+            let said = String::from_utf8_lossy(&output.stderr);
+            return Err(format!(
+                "{title}: {}, standard error {said:?}",
+                output.status
+            ));
         }
         let number = match wanted.split_once(' ') {
             Some(("refused", rest)) => rest.split(' ').next().and_then(|n| n.parse().ok()),
