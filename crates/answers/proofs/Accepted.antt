@@ -4,15 +4,15 @@ use Prim.Native.Nat.{ℕ, _≤_}
 use native.Mathlib.Omega.{arith}
 use mathlib.Core.Path.{_≡_, refl, sym, ap, subst, _∙_}
 use mathlib.Core.Bool.{not}
-use mathlib.Core.List.{List, map}
-use lib.ListN.{length, take, length-map, length-take}
-use lib.Seq.{length-take-le, length-front}
+use mathlib.Core.List.{List}
+use lib.ListN.{length, take, drop, length-map, length-append}
+use lib.Seq.{take-at, length-take-le, length-front}
 use Rattle.paper.specs.Formula.{ℓ, isCandidate}
 use Rattle.paper.specs.Strategy.{Strategy}
 use Rattle.paper.specs.Transition.{keys}
 use Rattle.paper.proofs.Lists.{to-none}
 use Rattle.paper.proofs.Labels.{mem-has}
-use Rattle.paper.proofs.Judgement.{accepted-exactly}
+use Rattle.entries.specs.Front.{inFront}
 use Rattle.table.specs.declared.Checked.the-variants.{Sound}
 use Rattle.table.specs.Table.{checked, chosenIn}
 use Rattle.written.specs.Tables.{Understood, formulaIn}
@@ -20,7 +20,7 @@ use Rattle.written.proofs.Tables.{understood}
 use Rattle.verdict.specs.declared.Accepted.{Accepted}
 use Rattle.verdict.specs.declared.Judged.{Judged}
 use Rattle.verdict.specs.declared.Judged.the-variants as judged
-use Rattle.strategy.specs.Judge.{judgedOf, proposalIn, orderLeft, JudgedInto, AcceptedSo}
+use Rattle.strategy.specs.Judge.{judgedOf, proposalIn, leftBy, orderIn, orderLeft, JudgedInto, AcceptedSo}
 use Rattle.strategy.proofs.Exactly.{accepted-so}
 use Rattle.strategy.proofs.Held.{parts-of, chosen-rows}
 use Rattle.strategy.proofs.Strangers.{kinds-of}
@@ -83,35 +83,50 @@ counts-fit words c e = go (judgedOf words) refl e
         subst FitCounts (ap (λ x. countsIn x c) e)
         (record { variables-fit = u .most-variables; rows-fit = u .most-rows; chosen-fit = u .most-chosen; transitions-fit = few-transitions words a q })
 
+-- An acceptance leaves the reported order in front of the words that were lent for it.
+module _ (words order₀ order : List ℕ) (a : Accepted) (e : judgedOf words ≡ judged.Accepted a) (stands : order ≡ inFront (orderIn words (a .layout)) order₀) where
+  many : length (orderIn words (a .layout)) ≡ a .layout .chosen
+  many = length-map (reported words (a .layout)) (λ x. x .0) ∙ reported-length words a e
+
+  pub order-in-front : Ordered words a order
+  order-in-front = record {
+    accepted = e;
+    in-front = ap (take (a .layout .chosen)) stands ∙ take-at (orderIn words (a .layout)) (drop (length (orderIn words (a .layout))) order₀) (a .layout .chosen) many;
+  }
+
+  -- it is all there
+  pub all-in-front : (a .layout .chosen ≤ length order) × (a .layout .chosen ≤ 2048)
+  all-in-front = (
+    omega (arith, many, ap length stands, length-append (orderIn words (a .layout)) (drop (length (orderIn words (a .layout))) order₀)),
+    few-chosen words a e,
+  )
+
+  -- and the words are as many as they were
+  pub front-as-long : length order₀ ≡ 2048 → length order ≡ 2048
+  front-as-long n =
+      let o = orderIn words (a .layout) in
+      let m = many in
+      let few = few-chosen words a e in
+      ap length stands ∙ length-front order₀ o (length o) (sym (length-take-le (length o) order₀ (omega arith))) ∙ n
+
 -- The order that a judgement leaves.
-module _ (words order₀ order : List ℕ) (j : Judged) (i : JudgedInto words order₀ order j) where
-  module _ (a : Accepted) (e : j ≡ judged.Accepted a) where
-    pub accepts : judgedOf words ≡ judged.Accepted a
-    accepts = sym (i .answered) ∙ e
+module _ (words order₀ order : List ℕ) (j : Judged) (i : JudgedInto words order₀ order j) (a : Accepted) (e : j ≡ judged.Accepted a) where
+  pub accepts : judgedOf words ≡ judged.Accepted a
+  accepts = sym (i .answered) ∙ e
 
-    -- it is all there
-    pub order-there : (a .layout .chosen ≤ length order) × (a .layout .chosen ≤ 2048)
-    order-there =
-        let l = a .layout in
-        let taken = ap length (i .ordered l (a .transitions) e) ∙ length-map (reported words l) (λ x. x .0) ∙ reported-length words a accepts in
-        (omega (arith, simp length-take at taken), few-chosen words a accepts)
+  stands-so : order ≡ inFront (orderIn words (a .layout)) order₀
+  unfolding orderLeft
+  stands-so = i .left-so ∙ ap (λ r. leftBy r (orderIn words) order₀) accepts
 
-    pub order-stands : Ordered words a order
-    order-stands = record { accepted = accepts; in-front = i .ordered (a .layout) (a .transitions) e }
+  pub order-there : (a .layout .chosen ≤ length order) × (a .layout .chosen ≤ 2048)
+  order-there = all-in-front words order₀ order a accepts stands-so
 
-    -- and the words lent for it are as many as they were
-    pub order-as-long : length order₀ ≡ 2048 → length order ≡ 2048
-    unfolding orderLeft
-    order-as-long n =
-        let l = a .layout in
-        let o = map (λ x. x .0) (reported words l) in
-        let many = length-map (reported words l) (λ x. x .0) ∙ reported-length words a accepts in
-        let few = few-chosen words a accepts in
-        let so = known words a accepts in
-        let whole = accepted-exactly (l .variables) (formulaIn words l) (proposalIn words l) .1 (so .strategy, so .few) in
-        let left = rw (so .sound, whole) at (i .left-so) in
-        ap length left ∙ length-front order₀ o (length o) (sym (length-take-le (length o) order₀ (omega arith))) ∙ n
+  pub order-stands : Ordered words a order
+  order-stands = order-in-front words order₀ order a accepts stands-so
 
-    pub order-filled : {lent left : List ℕ} {r : Filled} → Fills (unlessShort (length lent) (take (a .layout .chosen) order)) lent left r
-        → Fills (orderOf words (length lent)) lent left r
-    order-filled {lent} f = accepted-first words j (i .answered) a e (orderOutcome words (length lent)) (rw (← i .ordered (a .layout) (a .transitions) e) f)
+  pub order-as-long : length order₀ ≡ 2048 → length order ≡ 2048
+  order-as-long = front-as-long words order₀ order a accepts stands-so
+
+  pub order-filled : {lent left : List ℕ} {r : Filled} → Fills (unlessShort (length lent) (take (a .layout .chosen) order)) lent left r
+      → Fills (orderOf words (length lent)) lent left r
+  order-filled {lent} f = accepted-first words j (i .answered) a e (orderOutcome words (length lent)) (rw (← order-stands .in-front) f)

@@ -28,7 +28,7 @@ pub fn refused(number: u8, place: usize) -> Filled
 }
 
 // Copies the first `count` words.
-fn copy_words(from: &[u16; 2048], count: usize, out: &mut [u16])
+pub fn copy_words(from: &[u16; 2048], count: usize, out: &mut [u16])
     requires { ⌜ (count ≤ length (now from)) × (count ≤ 2048) × (count ≤ length (now out)) ⌝ }
     ensures { λ _. ⌜ now (out .exit) ≡ copied (now (from .entry)) count (now (out .entry)) ⌝ }
 {

@@ -4,7 +4,8 @@ use Prim.Native.Nat.{ℕ, zero, suc, _+_, _*_, _/_, _<_, _≤_}
 use native.Mathlib.Omega.{arith}
 use mathlib.Core.Path.{_≡_, refl, sym, ap, _∙_}
 use mathlib.Core.List.{List, [], _∷_}
-use lib.ListN.{length, getD, set}
+use lib.ListN.{length, getD, take, drop, set}
+use lib.Seq.{take-at}
 use Rattle.filling.specs.Filling.{copied}
 use Rattle.filling.proofs.Copies.{copied-all, Copying, copy-goes-on, copy-ends}
 use Rattle.input.specs.Bytes.{wordsOf, WordsIn}
@@ -45,3 +46,8 @@ module _ (bytes lent : List ℕ) (room : length bytes / 2 ≤ length lent) where
         stand =
             copy-ends (wordsOf bytes) (length bytes / 2) lent words i h c ∙ ap (λ n. copied (wordsOf bytes) n lent) there ∙ copied-all (wordsOf bytes) lent;
       }
+
+-- once they are put, they are the first ones
+pub words-front : {bytes lent words : List ℕ} {count : ℕ} → WordsIn bytes lent words count → take count words ≡ wordsOf bytes
+words-front {bytes} {lent} {count = count} w =
+    ap (take count) (w .stand) ∙ take-at (wordsOf bytes) (drop (length (wordsOf bytes)) lent) count (sym (w .many))

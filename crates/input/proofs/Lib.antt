@@ -1,4 +1,5 @@
 pub mod BytePairs
 pub mod BytesJudged
+pub mod Length
 pub mod Example
 pub mod OneOutcome

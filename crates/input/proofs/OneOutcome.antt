@@ -8,5 +8,4 @@ pub fill-words : OneOutcome words.fill_words.Kinds.ps words.fill_words.Kinds.r w
 fill-words κs a pre x y v w p q = (by-equation (p .many) (q .many), λ i. (tt, (by-equation (p .stand) (q .stand) i, tt)))
 
 pub judge-bytes : OneOutcome judging.judge_bytes.Kinds.ps judging.judge_bytes.Kinds.r judging.judge_bytes.Reads.Pre judging.judge_bytes.Reads.Post
-judge-bytes κs a pre x y v w p q =
-    (by-equation (p .answered) (q .answered), λ i. (tt, (by-equation (p .words-so) (q .words-so) i, (by-equation (p .order-so) (q .order-so) i, tt))))
+judge-bytes κs a pre x y v w p q = (by-equation (p .answered) (q .answered), λ i. (tt, (tt, (by-equation (p .left-so) (q .left-so) i, tt))))

@@ -1,38 +1,62 @@
--- What listing accepted bytes asks for is there: their words and their order, the bounds of their counts, what their lines are
--- worked out from, and room.
+-- What listing bytes asks for is there: their words and their judgement, and of accepted ones their order, the bounds of their counts, what
+-- their lines are worked out from, and room.
 use Prim.Native.Nat.{ℕ, _+_, _-_, _*_, _/_, _≤_}
 use native.Mathlib.Omega.{arith}
-use mathlib.Core.Path.{_≡_, sym, ap, _∙_}
+use mathlib.Core.Path.{_≡_, refl, sym, ap, subst, _∙_}
+use mathlib.Core.Bool.{Bool, true, false, cond}
 use mathlib.Core.List.{List, map}
 use lib.ListN.{length, take, drop, length-map, length-take}
 use lib.Seq.{length-take-le}
 use Rattle.paper.specs.Formula.{ℓ}
-use Rattle.keys.specs.declared.Distinct.{Distinct}
+use Rattle.entries.specs.Front.{inFront}
+use Rattle.sections.specs.declared.Refusal.{Refusal}
+use Rattle.table.specs.Table.{rowsIn}
 use Rattle.marks.specs.Marks.{Marked}
 use Rattle.keys.specs.Keys.{keysAt}
 use Rattle.verdict.specs.declared.Accepted.{Accepted}
 use Rattle.verdict.specs.declared.Judged.{Judged}
 use Rattle.verdict.specs.declared.Judged.the-variants as judged
-use Rattle.input.specs.Bytes.{wordsOf, JudgedBytes}
-use Rattle.answers.specs.Requests.{reported, Ordered}
-use Rattle.answers.proofs.Accepted.{is-understood, few-transitions, few-chosen, reported-length, order-stands, order-as-long}
+use Rattle.verdict.specs.Verdict.{refusedAt}
+use Rattle.strategy.specs.Judge.{proposalIn, leftBy, orderIn, judgedOf}
+use Rattle.input.specs.Bytes.{wordsOf, areOdd, judgedBytes, orderLeftOf, JudgedBytes}
+use Rattle.answers.specs.Requests.{reported, AcceptedAs, Ordered}
+use Rattle.answers.proofs.Accepted.{is-understood, few-transitions, few-chosen, reported-length, order-in-front, front-as-long}
 use Rattle.answers.proofs.Keeping.{rows-lent, chosen-lent}
-use Rattle.lister.specs.Steps.{Accepts, Headed, Listable, longest}
+use Rattle.lister.specs.declared.basis.Basis.{Basis}
+use Rattle.lister.specs.Steps.{Headed, ListableIf, Based, longest, Prepared}
 
--- what the judgement of accepted bytes leaves
-module _ {bytes words₀ words order₀ order : List ℕ} {r : Judged} (j : JudgedBytes bytes words₀ words order₀ order r) {a : Accepted}
-    (e : r ≡ judged.Accepted a) where
-  pub accepted-bytes : Accepts bytes (take (length bytes / 2) words) a order
-  accepted-bytes =
-      let stand = j .ready a e .words-stand in
-      record {
-        judged-so = sym (j .answered) ∙ e;
-        words-are = stand;
-        ordered = rw stand (order-stands (wordsOf bytes) order₀ order r (j .ready a e .judged-so) a e);
-      }
+-- what the judgement of bytes leaves
+module _ {bytes order₀ order : List ℕ} {r : Judged} (j : JudgedBytes bytes order₀ order r) where
+  -- accepted bytes are even in number, so their words are accepted
+  accepted-words : (a : Accepted) → judgedBytes bytes ≡ judged.Accepted a → judgedOf (wordsOf bytes) ≡ judged.Accepted a
+  unfolding judgedBytes
+  accepted-words a e = go (areOdd bytes) e
+    where
+      go : (odd : Bool) → cond odd (refusedAt 17 (length bytes / 2)) (judgedOf (wordsOf bytes)) ≡ judged.Accepted a
+          → judgedOf (wordsOf bytes) ≡ judged.Accepted a
+      go true q = let z : _≡_ {A = ℕ} 0 1 = cc in absurd (omega arith)
+      go false q = q
+
+  stands : (a : Accepted) → judgedBytes bytes ≡ judged.Accepted a → order ≡ inFront (orderIn (wordsOf bytes) (a .layout)) order₀
+  unfolding orderLeftOf
+  stands a e = j .left-so ∙ ap (λ r. leftBy r (orderIn (wordsOf bytes)) order₀) e
+
+  pub prepared : {words : List ℕ} → words ≡ wordsOf bytes → Prepared bytes words r order
+  prepared are = record {
+    answered = j .answered;
+    words-are = are;
+    ordered = λ a e.
+        let accepts = sym (j .answered) ∙ e in
+        rw are (order-in-front (wordsOf bytes) order₀ order a (accepted-words a accepts) (stands a accepts));
+  }
 
   pub order-long : length order₀ ≡ 2048 → length order ≡ 2048
-  order-long = order-as-long (wordsOf bytes) order₀ order r (j .ready a e .judged-so) a e
+  unfolding orderLeftOf
+  order-long n = go (judgedBytes bytes) refl
+    where
+      go : (i : Judged) → judgedBytes bytes ≡ i → length order ≡ 2048
+      go (judged.Refused x) e = ap length (j .left-so ∙ ap (λ r. leftBy r (orderIn (wordsOf bytes)) order₀) e) ∙ n
+      go (judged.Accepted a) e = front-as-long (wordsOf bytes) order₀ order a (accepted-words a e) (stands a e) n
 
 -- the first two lines of an accepted table can be put
 pub headed : {words order text : List ℕ} {a : Accepted} → Ordered words a order → length text ≡ 65536 → Headed a order text
@@ -49,19 +73,28 @@ headed {words} {order} {a = a} o room =
     }
 
 -- the lines of its transitions too, by the marks of its chosen labels and the keys of its formula, as they are counted
-pub listable : {words order marks : List ℕ} {a : Accepted} {own : Distinct} → Ordered words a order
-    → Marked (map ℓ (take (length words - a .layout .«chosen_at») (drop (a .layout .«chosen_at») words))) marks
-    → own ≡ keysAt (take (length words - a .layout .«rows_at») (drop (a .layout .«rows_at») words)) marks 64 0 → Listable words a marks own order
-listable {words} {a = a} o m n = record {
-  ordered = o;
-  marked = rw (chosen-lent words a (o .accepted)) at m;
-  own-are = rw (rows-lent words a (o .accepted)) at n;
-}
+module _ {words : List ℕ} {j : Judged} {basis : Basis} where
+  pub accepted-basis : {a : Accepted} → j ≡ judged.Accepted a → AcceptedAs words a
+      → Marked (map ℓ (take (length words - a .layout .«chosen_at») (drop (a .layout .«chosen_at») words))) (basis .marks)
+      → basis .own ≡ keysAt (take (length words - a .layout .«rows_at») (drop (a .layout .«rows_at») words)) (basis .marks) 64 0 → Based words j basis
+  accepted-basis {a} e accepts m n = record {
+    marked = λ b q. let same : a ≡ b = cc in
+        subst (λ x. Marked (proposalIn words (x .layout)) (basis .marks)) same (rw (chosen-lent words a accepts) at m);
+    own-are = λ b q. let same : a ≡ b = cc in
+        subst (λ x. basis .own ≡ keysAt (rowsIn words (x .layout)) (basis .marks) 64 0) same (rw (rows-lent words a accepts) at n);
+  }
 
-pub line-room : {words order : List ℕ} {a : Accepted} → Ordered words a order → (room : ℕ) → room ≡ 65536 → longest (a .layout) ≤ room
-line-room {words} {a = a} o room n =
-    let u = is-understood words a (o .accepted) in
-    omega (arith, u .most-variables, u .most-rows)
+  pub refused-basis : {x : Refusal} → j ≡ judged.Refused x → Based words j basis
+  refused-basis e = record {
+    marked = λ a q. let z : _≡_ {A = ℕ} 0 1 = cc in absurd (omega arith);
+    own-are = λ a q. let z : _≡_ {A = ℕ} 0 1 = cc in absurd (omega arith);
+  }
+
+  pub listable-if : {bytes order : List ℕ} → Prepared bytes words j order → Based words j basis → ListableIf words j (basis .marks) (basis .own) order
+  listable-if p b a e = record { ordered = p .ordered a e; marked = b .marked a e; own-are = b .own-are a e }
+
+pub line-room : (words : List ℕ) (a : Accepted) → AcceptedAs words a → (room : ℕ) → room ≡ 65536 → longest (a .layout) ≤ room
+line-room words a e room n = let u = is-understood words a e in omega (arith, u .most-variables, u .most-rows)
 
 -- there is room for the second line behind the first
 pub order-fits : (order : List ℕ) (chosen at room : ℕ) → chosen ≤ length order → chosen ≤ 2048 → at ≤ 53 → room ≡ 65536

@@ -1,4 +1,6 @@
 pub mod Asked
 pub mod LinesPut
+pub mod Pieces
+pub mod PartsPut
+pub mod Written
 pub mod Example
-pub mod InParts

@@ -6,9 +6,10 @@ use native.Mathlib.Nat.{zero-add, add-zero, suc-add, add-suc}
 use mathlib.Core.Path.{_≡_, refl, sym, ap, _∙_}
 use mathlib.Core.Bool.{Bool, true, false, cond}
 use mathlib.Core.List.{List, _∷_, _++_, map, append-assoc, append-nil}
-use lib.Dec.{eqb}
+use lib.Dec.{eqb, ltb}
 use lib.ListN.{length, take, drop}
 use lib.Seq.{length-take-le}
+use borrow.Author.Tests.{lt-ltb, le-ltb}
 use Rattle.paper.specs.declared.Label.{Label}
 use Rattle.paper.specs.Lists.{those}
 use Rattle.paper.specs.Formula.{ℓ}
@@ -31,7 +32,7 @@ use Rattle.listing.specs.Text.{transitionLine}
 use Rattle.listing.specs.Placed.{Put}
 use Rattle.listing.proofs.Placing.{put-nothing, put-then}
 use Rattle.lister.specs.Listing.{lineOf, linesFrom}
-use Rattle.lister.specs.Steps.{Listable, LinesPut}
+use Rattle.lister.specs.Steps.{Listable, longest, fitting}
 
 -- the bytes of labels that pass a test, and their positions
 module _ (p : Label → Bool) where
@@ -52,46 +53,73 @@ module _ (words : List ℕ) (l : Layout) where
   lines-split zero n k = rw (zero-add, add-zero)
   lines-split (suc m) n k = rw (suc-add, add-suc, ← suc-add k m, append-assoc) (ap (λ (r : List ℕ). lineOf words l k ++ r) (lines-split m n (suc k)))
 
-  lines-next : (k next : ℕ) → k ≤ next → linesFrom words l k (next + 1 - k) ≡ linesFrom words l k (next - k) ++ lineOf words l next
+  lines-next : (k count : ℕ) → linesFrom words l k (count + 1) ≡ linesFrom words l k count ++ lineOf words l (k + count)
   unfolding linesFrom
-  lines-next k next h =
-      let more : next + 1 - k ≡ next - k + 1 = omega arith in
-      let there : k + (next - k) ≡ next = omega arith in
-      rw more (lines-split (next - k) 1 k ∙ rw (there, append-nil))
+  lines-next k count = lines-split count 1 k ∙ rw append-nil
+
+  -- how many lines fit: one more, or none
+  fits-more : (room at k more : ℕ) → longest l ≤ room - at
+      → fitting words l room at k (suc more) ≡ suc (fitting words l room (at + length (lineOf words l k)) (suc k) more)
+  unfolding fitting
+  fits-more room at k more h = rw (le-ltb (room - at) (longest l) h)
+
+  fits-no-more : (room at k more : ℕ) → room - at < longest l → fitting words l room at k more ≡ 0
+  unfolding fitting
+  fits-no-more room at k zero h = refl
+  fits-no-more room at k (suc more) h = rw (lt-ltb (room - at) (longest l) h)
+
+  pub fits-within : (room at k more : ℕ) → fitting words l room at k more ≤ more
+  unfolding fitting
+  fits-within room at k zero = omega arith
+  fits-within room at k (suc more) = either (ltb (room - at) (longest l)) (fits-within room (at + length (lineOf words l k)) (suc k) more)
+    where
+      either : (b : Bool) {n : ℕ} → n ≤ more → cond b 0 (suc n) ≤ suc more
+      either true h = omega arith
+      either false h = omega arith
+
+  -- where there is room for the longest, one is put at least
+  pub fits-some : (room k more : ℕ) → longest l ≤ room → 0 < more → 0 < fitting words l room 0 k more
+  fits-some room k zero h some = absurd (omega arith)
+  fits-some room k (suc more) h some = let n = fits-more room 0 k more (omega arith) in omega arith
 
   -- lines put one after another, from transition k on
-  pub record Putting (k count : ℕ) (lent text : List ℕ) (next at : ℕ) : Type 0 where
-    pub so-far : k ≤ next
-    pub within : next ≤ count
-    pub put : Put lent 0 (linesFrom words l k (next - k)) text at
+  pub record Putting (k left : ℕ) (lent text : List ℕ) (count at : ℕ) : Type 0 where
+    pub so-far : count ≤ left
+    pub put : Put lent 0 (linesFrom words l k count) text at
+    pub fit : fitting words l (length lent) 0 k left ≡ count + fitting words l (length lent) at (k + count) (left - count)
 
-  pub putting-begins : (k count : ℕ) (lent : List ℕ) → k < count → Putting k count lent lent k 0
-  unfolding linesFrom
-  putting-begins k count lent h =
-      let none : k - k ≡ 0 = omega arith in
-      record { so-far = omega arith; within = omega arith; put = rw none (put-nothing lent 0 (omega arith)) }
+  module _ {k left : ℕ} {lent : List ℕ} where
+    pub putting-begins : Putting k left lent lent 0 0
+    unfolding linesFrom
+    putting-begins = record {
+      so-far = omega arith;
+      put = put-nothing lent 0 (omega arith);
+      fit = let all : left - 0 ≡ left = omega arith in rw (add-zero, zero-add, all);
+    }
 
-  pub putting-goes-on : {k count : ℕ} {lent text text′ : List ℕ} {next at at′ : ℕ} → Putting k count lent text next at → next < count
-      → Put text at (lineOf words l next) text′ at′ → Putting k count lent text′ (next + 1) at′
-  putting-goes-on {k} {next = next} p h q = record {
-    so-far = let s = p .so-far in omega arith;
-    within = omega arith;
-    put = rw (lines-next k next (p .so-far)) (put-then (p .put) q);
-  }
+    module _ {text : List ℕ} {count at : ℕ} (p : Putting k left lent text count at) where
+      pub putting-goes-on : {text′ : List ℕ} {at′ : ℕ} → count < left → longest l ≤ length lent - at → Put text at (lineOf words l (k + count)) text′ at′
+          → Putting k left lent text′ (count + 1) at′
+      putting-goes-on h room q =
+          let one : left - count ≡ suc (left - (count + 1)) = omega arith in
+          let next : k + (count + 1) ≡ suc (k + count) = omega arith in
+          let fit = rw one at (p .fit) in
+          let more = fits-more (length lent) at (k + count) (left - (count + 1)) room in
+          record {
+            so-far = omega arith;
+            put = rw (lines-next k count) (put-then (p .put) q);
+            fit = rw (next, q .next) (omega arith);
+          }
 
-  -- nothing is put before the first line
-  pub putting-some : {k count : ℕ} {lent text : List ℕ} {next at : ℕ} → Putting k count lent text next at → 0 < at → k < next
-  unfolding linesFrom
-  putting-some {k} {next = next} p h = some (next - k) refl
-    where
-      some : (m : ℕ) → next - k ≡ m → k < next
-      some zero e = let none = rw e at (p .put .next) in absurd (omega arith)
-      some (suc m) e = omega arith
+      putting-stops : (fitting words l (length lent) at (k + count) (left - count) ≡ 0) → count ≡ fitting words l (length lent) 0 k left
+      putting-stops none = let f = p .fit in omega arith
 
--- lines that are put stand in front
-pub putting-stops : (words : List ℕ) (a : Accepted) {k : ℕ} {lent text : List ℕ} {next at : ℕ}
-    → Putting words (a .layout) k (a .transitions) lent text next at → k < next → LinesPut words a k lent text (record { next = next; at = at })
-putting-stops words a p some = record { some = some; within = p .within; put = p .put }
+      pub none-left : left ≤ count → count ≡ fitting words l (length lent) 0 k left
+      unfolding fitting
+      none-left h = let none : left - count ≡ 0 = omega arith in putting-stops (rw none)
+
+      pub no-room : length lent - at < longest l → count ≡ fitting words l (length lent) 0 k left
+      no-room h = putting-stops (fits-no-more (length lent) at (k + count) (left - count) h)
 
 -- The line of transition k, from what the walk and the choice leave.
 module _ {words : List ℕ} {a : Accepted} {marks : List ℕ} {own : Distinct} {order : List ℕ} (p : Listable words a marks own order) {k : ℕ}

@@ -1,6 +1,6 @@
 -- What the lister prints for the bytes that it read (document 01, "A listing, whole", and refusal 17): the lines of crate listing,
 -- filled with what the judgement and the requests answer.
-use Prim.Native.Nat.{ℕ, zero, suc}
+use Prim.Native.Nat.{ℕ, zero, suc, _+_}
 use mathlib.Core.List.{List, [], _++_, map}
 use Rattle.paper.specs.Transition.{keptLabels}
 use Rattle.table.specs.declared.Layout.{Layout}
@@ -33,10 +33,23 @@ firstOf words (judged.Refused r) = refusedLine (r .number) (r .place)
 firstOf words (judged.Accepted a) = headOf a (map (λ i. i .0) (reported words (a .layout)))
 
 -- the rest: of an acceptance a line for each transition
-abbrev pub restOf : List ℕ → Judged → List ℕ
-restOf words (judged.Refused r) = []
-restOf words (judged.Accepted a) = linesFrom words (a .layout) 0 (a .transitions)
+abbrev pub transitionsOf : Judged → ℕ
+transitionsOf (judged.Refused r) = 0
+transitionsOf (judged.Accepted a) = a .transitions
+
+abbrev pub linesBelow : List ℕ → Judged → ℕ → List ℕ
+linesBelow words (judged.Refused r) k = []
+linesBelow words (judged.Accepted a) k = linesFrom words (a .layout) 0 k
 
 -- the whole listing
 abbrev pub listingOf : List ℕ → List ℕ
-listingOf bytes = firstOf (wordsOf bytes) (judgedBytes bytes) ++ restOf (wordsOf bytes) (judgedBytes bytes)
+listingOf bytes =
+    firstOf (wordsOf bytes) (judgedBytes bytes) ++ linesBelow (wordsOf bytes) (judgedBytes bytes) (transitionsOf (judgedBytes bytes))
+
+-- The listing in pieces: piece 0 is the first part, and piece k + 1 the line of transition k. How many there are, and those below n joined.
+abbrev pub pieces : Judged → ℕ
+pieces j = transitionsOf j + 1
+
+abbrev pub piecesBelow : List ℕ → Judged → ℕ → List ℕ
+piecesBelow words j zero = []
+piecesBelow words j (suc k) = firstOf words j ++ linesBelow words j k

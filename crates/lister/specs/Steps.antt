@@ -1,27 +1,36 @@
--- What the lister's functions ask for and leave: accepted bytes with their words and their order, and the parts of the listing.
-use Prim.Native.Nat.{ℕ, _+_, _-_, _*_, _<_, _≤_}
-use mathlib.Core.List.{List}
+-- What the lister's functions ask for and leave: what was read, accepted words with their order, the parts of a listing, and how far it is
+-- written.
+use Prim.Native.Nat.{ℕ, zero, suc, _+_, _-_, _*_, _^_, _<_, _≤_}
+use mathlib.Core.Bool.{true, false, cond}
+use mathlib.Core.List.{List, []}
 use mathlib.Core.Path.{_≡_}
-use lib.ListN.{length}
+use lib.Dec.{ltb}
+use lib.ListN.{length, take, drop}
 use Rattle.table.specs.declared.Layout.{Layout}
 use Rattle.table.specs.Table.{rowsIn}
 use Rattle.keys.specs.declared.Distinct.{Distinct}
 use Rattle.marks.specs.Marks.{Marked}
 use Rattle.keys.specs.Keys.{keysAt}
 use Rattle.verdict.specs.declared.Accepted.{Accepted}
+use Rattle.verdict.specs.declared.Judged.{Judged}
 use Rattle.verdict.specs.declared.Judged.the-variants as judged
 use Rattle.strategy.specs.Judge.{proposalIn}
 use Rattle.input.specs.Bytes.{wordsOf, judgedBytes}
-use Rattle.answers.specs.Requests.{Ordered}
+use Rattle.input.specs.Length.{mostBytes}
+use Rattle.answers.specs.Requests.{AcceptedAs, Ordered}
 use Rattle.listing.specs.Placed.{Put}
-use Rattle.lister.specs.declared.lines.Part.{Part}
-use Rattle.lister.specs.Listing.{linesFrom}
+use Rattle.lister.specs.declared.Ran.{Ran}
+use Rattle.lister.specs.declared.basis.Basis.{Basis}
+use Rattle.lister.specs.declared.lines.Lines.{Lines}
+use Rattle.lister.specs.declared.output.Written.{Written}
+use Rattle.lister.specs.declared.parts.Part.{Part}
+use Rattle.lister.specs.declared.reading.Read.{Read}
+use Rattle.lister.specs.Listing.{lineOf, linesFrom, firstOf, listingOf}
 
--- the words of bytes that are accepted so, with their reported order in front
-pub record Accepts (bytes words : List ℕ) (a : Accepted) (order : List ℕ) : Type 0 where
-  pub judged-so : judgedBytes bytes ≡ judged.Accepted a
-  pub words-are : words ≡ wordsOf bytes
-  pub ordered : Ordered words a order
+-- at most so many bytes are read; fewer only where a reading call gave nothing more
+pub record ReadSo (read : Read) : Type 0 where
+  pub within : read .count ≤ mostBytes
+  pub full : read .ended ≡ false → read .count ≡ mostBytes
 
 -- counts that fit, an order of so many labels, and room for two lines
 pub record Headed (a : Accepted) (order text : List ℕ) : Type 0 where
@@ -39,12 +48,80 @@ pub record Listable (words : List ℕ) (a : Accepted) (marks : List ℕ) (own : 
   pub marked : Marked (proposalIn words (a .layout)) marks
   pub own-are : own ≡ keysAt (rowsIn words (a .layout)) marks 64 0
 
+-- of accepted words it is so
+abbrev pub AcceptedIf : List ℕ → Judged → Type 0
+AcceptedIf words j = (a : Accepted) → j ≡ judged.Accepted a → AcceptedAs words a
+
+abbrev pub ListableIf : List ℕ → Judged → List ℕ → Distinct → List ℕ → Type 0
+ListableIf words j marks own order = (a : Accepted) → j ≡ judged.Accepted a → Listable words a marks own order
+
+-- the marks and the keys of accepted words
+pub record Based (words : List ℕ) (j : Judged) (basis : Basis) : Type 0 where
+  pub marked : (a : Accepted) → j ≡ judged.Accepted a → Marked (proposalIn words (a .layout)) (basis .marks)
+  pub own-are : (a : Accepted) → j ≡ judged.Accepted a → basis .own ≡ keysAt (rowsIn words (a .layout)) (basis .marks) 64 0
+
 -- no transition's line is longer
 abbrev pub longest : Layout → ℕ
 longest l = 23 + 6 * l .variables + 6 * l .rows
 
--- the lines of the transitions from k on, at least one, stand in front of what was there
-pub record LinesPut (words : List ℕ) (a : Accepted) (k : ℕ) (lent left : List ℕ) (part : Part) : Type 0 where
-  pub some : k < part .next
-  pub within : part .next ≤ a .transitions
-  pub put : Put lent 0 (linesFrom words (a .layout) k (part .next - k)) left (part .at)
+-- How many of the next `more` lines, from transition k on, are put behind `at` bytes where there is `room` for so many: one after another,
+-- for as long as what is left is room for the longest.
+unfoldable pub fitting : List ℕ → Layout → ℕ → ℕ → ℕ → ℕ → ℕ
+fitting words l room at k zero = 0
+fitting words l room at k (suc more) = cond (ltb (room - at) (longest l)) 0 (suc (fitting words l room (at + length (lineOf words l k)) (suc k) more))
+
+-- the lines of transitions from k on, as many as fit
+abbrev pub manyLines : List ℕ → Accepted → ℕ → ℕ → ℕ
+manyLines words a room k = fitting words (a .layout) room 0 k (a .transitions - k)
+
+-- they stand in front of what was there
+pub record LinesPut (words : List ℕ) (a : Accepted) (k : ℕ) (lent left : List ℕ) (lines : Lines) : Type 0 where
+  pub many : lines .count ≡ manyLines words a (length lent) k
+  pub put : Put lent 0 (linesFrom words (a .layout) k (lines .count)) left (lines .length)
+
+-- The part that begins with piece n, with so much room: how many pieces it has, and its bytes.
+abbrev pub manyPieces : List ℕ → Judged → ℕ → ℕ → ℕ
+manyPieces words j room zero = 1
+manyPieces words (judged.Refused r) room (suc k) = 0
+manyPieces words (judged.Accepted a) room (suc k) = manyLines words a room k
+
+abbrev pub partOf : List ℕ → Judged → ℕ → ℕ → List ℕ
+partOf words j room zero = firstOf words j
+partOf words (judged.Refused r) room (suc k) = []
+partOf words (judged.Accepted a) room (suc k) = linesFrom words (a .layout) k (manyLines words a room k)
+
+-- it stands in front of what was there
+pub record PartPut (words : List ℕ) (j : Judged) (n : ℕ) (lent left : List ℕ) (part : Part) : Type 0 where
+  pub many : part .next ≡ n + manyPieces words j (length lent) n
+  pub put : Put lent 0 (partOf words j (length lent) n) left (part .length)
+
+-- of accepted words the reported order stands in front
+abbrev pub OrderedIf : List ℕ → Judged → List ℕ → Type 0
+OrderedIf words j order = (a : Accepted) → j ≡ judged.Accepted a → Ordered words a order
+
+-- the words and the judgement of bytes, with the reported order
+pub record Prepared (bytes words : List ℕ) (j : Judged) (order : List ℕ) : Type 0 where
+  pub answered : j ≡ judgedBytes bytes
+  pub words-are : words ≡ wordsOf bytes
+  pub ordered : OrderedIf words j order
+
+-- The part of a listing that comes next: all before it was given and taken, and it is what follows there.
+pub record NextPart (listing : List ℕ) (w : Written) (part : List ℕ) : Type 0 where
+  pub taken : w .whole ≡ true
+  pub follows : part ≡ take (length part) (drop (w .at) listing)
+  pub few : w .at + length part < 2 ^ 64
+
+-- it was given: and taken, or not
+pub record HandedOver (before : Written) (part : List ℕ) (after : Written) : Type 0 where
+  pub taken : after .whole ≡ true → after .at ≡ before .at + length part
+  pub not-taken : after .whole ≡ false → after .at ≡ before .at
+
+-- How far a listing is written: all of it, where all that was given was taken.
+pub record Reached (listing : List ℕ) (w : Written) : Type 0 where
+  pub within : w .at ≤ length listing
+  pub all : w .whole ≡ true → w .at ≡ length listing
+
+-- What was read stands in front of the buffer, and its listing is written so far.
+pub record RanSo (buffer : List ℕ) (r : Ran) : Type 0 where
+  pub read-so : ReadSo (r .read)
+  pub written-so : Reached (listingOf (take (r .read .count) buffer)) (r .written)

@@ -13,10 +13,10 @@ use transitions::assigned::fill_assigned;
 use transitions::kept::mark_kept;
 use verdict::Accepted;
 
-// The number of the next transition, and the place behind the lines that were put.
-pub struct Part {
-    pub next: usize,
-    pub at: usize,
+// How many lines were put, and how many bytes they are.
+pub struct Lines {
+    pub count: usize,
+    pub length: usize,
 }
 
 // The counts, and the order, which stands in front of `order`.
@@ -63,21 +63,21 @@ pub fn put_lines(
     order: &[u16],
     k: usize,
     text: &mut [u8],
-) -> Part
-    requires { ⌜ Listable (now words) a (now marks) own (now order) × (k < a .transitions) × (longest (a .layout) ≤ length (now text)) ⌝ }
+) -> Lines
+    requires { ⌜ Listable (now words) a (now marks) own (now order) × (k < a .transitions) ⌝ }
     ensures { λ r. ⌜ LinesPut (now (words .entry)) a k (now (text .entry)) (now (text .exit)) r ⌝ }
 {
     let l = a.layout;
-    let count = a.transitions;
+    let left = a.transitions - k;
     let most = 23 + 6 * l.variables + 6 * l.rows;
-    let mut next = k;
-    let mut at = 0;
-    while next < count {
-        if text.len() - at < most {
-            return Part { next, at };
+    let mut count = 0;
+    let mut length = 0;
+    while count < left {
+        if text.len() - length < most {
+            return Lines { count, length };
         }
-        at = put_line(words, a, marks, own, order, next, text, at);
-        next += 1;
+        length = put_line(words, a, marks, own, order, k + count, text, length);
+        count += 1;
     }
-    Part { next, at }
+    Lines { count, length }
 }

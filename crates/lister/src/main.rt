@@ -1,34 +1,54 @@
 // The lister: reads a table on standard input, and prints its listing or one line of a refusal (document 01, "A listing, whole").
+mod basis; // what the lines of the transitions are worked out from
 mod lines; // the lines of the transitions, put into a lent buffer
-mod parts; // the parts of a listing, written out one after another
+mod output; // the one call that writes
+mod parts; // the parts of a listing, put into a lent buffer one after another
+mod reading; // what is read
+mod writing; // the parts of a listing, written out one after another
 
+ghost use mathlib.Core.Path.{_≡_};
 ghost use Prim.Native.Nat.{_≤_};
 ghost use lib.ListN.{length};
+ghost use Rattle.input.specs.Length.{mostBytes};
+ghost use Rattle.lister.specs.Listing.{listingOf};
+ghost use Rattle.lister.specs.Steps.{Reached, RanSo};
 use input::judging::judge_bytes;
-use libc::STDIN_FILENO;
-use parts::list_accepted;
-use parts::list_refused;
-use verdict::Judged;
+use input::words::fill_words;
+use output::Written;
+use reading::Read;
+use reading::read_input;
+use writing::write_listing;
 
-// Lists the table that bytes write.
-fn list(bytes: &[u8])
-    requires { ⌜ length (now bytes) ≤ 65536 ⌝ }
-{
-    let mut words = [0u16; 32768];
-    let mut order = [0u16; 2048];
-    let judged = judge_bytes(bytes, &mut words, &mut order);
-    match judged {
-        Judged::Accepted(a) => {
-            let count = bytes.len() / 2;
-            list_accepted(bytes, &words[..count], a, &order);
-        }
-        Judged::Refused(r) => list_refused(bytes, r),
-    }
+// What was read, and how far its listing was written.
+struct Ran {
+    read: Read,
+    written: Written,
 }
 
-// Reads at most 65,536 bytes, and lists them.
+// Lists the table that bytes write.
+fn list(bytes: &[u8]) -> Written
+    requires { ⌜ length (now bytes) ≤ mostBytes ⌝ }
+    ensures { λ r. ⌜ Reached (listingOf (now (bytes .entry))) r ⌝ }
+{
+    let mut words = [0u16; 32768];
+    let count = fill_words(bytes, &mut words);
+    let mut order = [0u16; 2048];
+    let judged = judge_bytes(bytes, &words[..count], &mut order);
+    write_listing(bytes, &words[..count], judged, &order)
+}
+
+// Reads a table into `bytes`, and lists it.
+fn run(bytes: &mut [u8]) -> Ran
+    requires { ⌜ length (now bytes) ≡ mostBytes ⌝ }
+    ensures { λ r. ⌜ RanSo (now (bytes .exit)) r ⌝ }
+{
+    let read = read_input(bytes);
+    let count = read.count;
+    let written = list(&bytes[..count]);
+    Ran { read, written }
+}
+
 fn main() {
     let mut bytes = io::large_buffer();
-    let n = io::read_full(STDIN_FILENO, &mut bytes);
-    list(&bytes[..n]);
+    run(&mut bytes);
 }

@@ -1,74 +1,76 @@
-// The parts of a listing, each put into a buffer and then written. No contract can say what a writing call does. So the two functions
-// that write ask for the part that they are to write, and their callers show it; what they are handed beside it says which part it
-// is. A write that fails ends the listing.
+// The parts of a listing, put into a lent buffer: the first one, and then the lines of the transitions, as many at a time as surely fit.
+// A listing is taken for a row of pieces: piece 0 is the first part, and piece k + 1 the line of transition k.
 ghost use mathlib.Core.Path.{_≡_};
-ghost use Prim.Native.Nat.{_-_};
+ghost use Prim.Native.Nat.{_<_, _≤_};
 ghost use lib.ListN.{length};
-ghost use Rattle.input.specs.Bytes.{wordsOf, judgedBytes};
-ghost use Rattle.lister.specs.Listing.{linesFrom, firstOf};
-ghost use Rattle.lister.specs.Steps.{Accepts};
+ghost use Rattle.lister.specs.Listing.{pieces};
+ghost use Rattle.lister.specs.Steps.{Listable, ListableIf, PartPut};
 use crate::lines::put_head;
 use crate::lines::put_lines;
-use keys::keys_of;
-use libc::STDOUT_FILENO;
+use keys::Distinct;
 use listing::put_refused;
-use marks::marks_of;
-use paper::Label;
-use sections::Refusal;
 use verdict::Accepted;
 use verdict::Judged;
 
-// Writes the first part of the listing of the bytes; says whether it could.
-fn write_first(bytes: &[u8], part: &[u8]) -> bool
-    requires { ⌜ now part ≡ firstOf (wordsOf (now bytes)) (judgedBytes (now bytes)) ⌝ }
-{
-    io::write_all(STDOUT_FILENO, part)
+// The number of the piece that comes next, and how many bytes were put.
+pub struct Part {
+    pub next: usize,
+    pub length: usize,
 }
 
-// Writes the lines of the transitions from number `from` on, those below `to`, of the listing of the bytes; says whether it could.
-fn write_lines(bytes: &[u8], a: Accepted, from: usize, to: usize, part: &[u8]) -> bool
-    requires { ⌜ now part ≡ linesFrom (wordsOf (now bytes)) (a .layout) from (to - from) ⌝ }
+// How many pieces the listing has.
+pub fn pieces_of(judged: Judged) -> usize
+    requires { ⌜ pieces judged ≤ 65536 ⌝ }
+    ensures { λ r. ⌜ r ≡ pieces judged ⌝ }
 {
-    io::write_all(STDOUT_FILENO, part)
-}
-
-// One line of a refusal.
-pub fn list_refused(bytes: &[u8], r: Refusal)
-    requires { ⌜ judgedBytes (now bytes) ≡ Judged.Refused r ⌝ }
-{
-    let mut text = [0u8; 30];
-    let at = put_refused(&mut text, 0, r.number, r.place);
-    write_first(bytes, &text[..at]);
-}
-
-// The listing of accepted bytes, whose words these are and whose reported order stands in front of `order`.
-pub fn list_accepted(bytes: &[u8], words: &[u16], a: Accepted, order: &[u16])
-    requires { ⌜ Accepts (now bytes) (now words) a (now order) ⌝ }
-{
-    let mut text = io::large_buffer();
-    let at = put_head(a, order, &mut text);
-    if write_first(bytes, &text[..at]) {
-        list_transitions(bytes, words, a, order, &mut text);
+    match judged {
+        Judged::Accepted(a) => a.transitions + 1,
+        Judged::Refused(_) => 1,
     }
 }
 
-// The lines of all transitions. What does not depend on the transition is worked out once.
-fn list_transitions(bytes: &[u8], words: &[u16], a: Accepted, order: &[u16], text: &mut [u8])
-    requires { ⌜ Accepts (now bytes) (now words) a (now order) × (length (now text) ≡ 65536) ⌝ }
+// The part of an accepted table's listing that begins with piece `next`.
+fn put_accepted_part(
+    words: &[u16],
+    a: Accepted,
+    marks: &[u8; 4096],
+    own: Distinct,
+    order: &[u16],
+    next: usize,
+    text: &mut [u8],
+) -> Part
+    requires { ⌜ Listable (now words) a (now marks) own (now order) × (next < pieces (Judged.Accepted a)) × (length (now text) ≡ 65536) ⌝ }
+    ensures { λ r. ⌜ PartPut (now (words .entry)) (Judged.Accepted a) next (now (text .entry)) (now (text .exit)) r ⌝ }
 {
-    let l = a.layout;
-    let rows = l.rows_at;
-    let chosen = l.chosen_at;
-    let count = a.transitions;
-    let marks = marks_of(&words[chosen..]);
-    let own = keys_of(&words[rows..], &marks, l.rows as u16, Label(0), 64);
-    let mut k = 0;
-    while k < count {
-        let part = put_lines(words, a, &marks, own, order, k, text);
-        let at = part.at;
-        if !write_lines(bytes, a, k, part.next, &text[..at]) {
-            return;
-        }
-        k = part.next;
+    if next == 0 {
+        let length = put_head(a, order, text);
+        return Part { next: 1, length };
+    }
+    let lines = put_lines(words, a, marks, own, order, next - 1, text);
+    Part {
+        next: next + lines.count,
+        length: lines.length,
+    }
+}
+
+// The part of the listing that begins with piece `next`.
+pub fn put_part(
+    words: &[u16],
+    judged: Judged,
+    marks: &[u8; 4096],
+    own: Distinct,
+    order: &[u16],
+    next: usize,
+    text: &mut [u8],
+) -> Part
+    requires { ⌜ ListableIf (now words) judged (now marks) own (now order) × (next < pieces judged) × (length (now text) ≡ 65536) ⌝ }
+    ensures { λ r. ⌜ PartPut (now (words .entry)) judged next (now (text .entry)) (now (text .exit)) r ⌝ }
+{
+    match judged {
+        Judged::Accepted(a) => put_accepted_part(words, a, marks, own, order, next, text),
+        Judged::Refused(r) => Part {
+            next: 1,
+            length: put_refused(text, 0, r.number, r.place),
+        },
     }
 }

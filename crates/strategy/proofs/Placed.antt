@@ -136,8 +136,15 @@ module _ {rows reads chosen : List ℕ} {#V #N : ℕ} (c : Covered rows reads ch
   order-is : wordsOfOrder f A ≡ labelled chosen (ordered rows reads chosen)
   order-is = ap (map (λ l. l .0)) by-numbers ∙ map-map (λ (l : Label). l .0) (λ k. ℓ (getD chosen k 0)) (ordered rows reads chosen)
 
+  pub reported-length : length (wordsOfOrder f A) ≡ length (ordered rows reads chosen)
+  reported-length = ap length order-is ∙ length-map (ordered rows reads chosen) (λ k. getD chosen k 0)
+
   many-placed : length (order (before f A) A) ≡ length (ordered rows reads chosen)
   many-placed = ap length by-numbers ∙ length-map (ordered rows reads chosen) (λ k. ℓ (getD chosen k 0))
+
+  -- no more are placed than there are
+  pub order-fits : length (ordered rows reads chosen) ≤ length chosen
+  order-fits = omega (arith, greedy-le (before f A) (length A) A, many-placed, length-map chosen ℓ)
 
   as-numbered : (k : ℕ) → k < length chosen → isCyclic rows reads chosen k ≡ onCycle (before f A) A (ℓ (getD chosen k 0))
   unfolding isCyclic

@@ -2,19 +2,18 @@
 -- table's own checks find them, then 10 to 14 as document 001's judgement of the formula that the words write; or what is known
 -- of an accepted table.
 use Prim.Native.Nat.{ℕ, _*_, _<_, _≤_}
-use mathlib.Core.Bool.{Bool, true, cond}
+use mathlib.Core.Bool.{true}
 use mathlib.Core.Path.{_≡_}
 use mathlib.Core.Logic.{_↔_}
 use mathlib.Core.List.{List, [], map}
-use lib.Dec.{ltb}
-use lib.ListN.{length, getD, take}
+use lib.ListN.{length, getD}
 use Rattle.paper.specs.declared.Label.{Label}
 use Rattle.paper.specs.Formula.{ℓ, Formula, WellFormed}
 use Rattle.paper.specs.Before.{before}
 use Rattle.paper.specs.Order.{order}
 use Rattle.paper.specs.Strategy.{Strategy}
 use Rattle.paper.specs.Transition.{keys}
-use Rattle.paper.specs.Judgement.{Judgement, accepted, refused, strangers, missed, doubled, judgeOrder, judge}
+use Rattle.paper.specs.Judgement.{Judgement, strangers, missed, doubled, judgeOrder, judge}
 use Rattle.table.specs.declared.Layout.{Layout}
 use Rattle.table.specs.declared.Checked.{Checked}
 use Rattle.table.specs.declared.Checked.the-variants.{Sound, Refused}
@@ -48,30 +47,24 @@ judgedOf words = judgedAs words (checked words)
 abbrev pub wordsOfOrder : Formula → List Label → List ℕ
 wordsOfOrder f A = map (λ l. l .0) (order (before f A) A)
 
--- the order is worked out before the judgement is known: it is an acceptance, or a refusal past 12
-abbrev pub comesLate : Judgement → Bool
-comesLate (accepted v n s t) = true
-comesLate (refused number place) = ltb 12 number
+-- what an answer leaves in words lent for an order, which is that of the accepted layout: an acceptance the order in front of what was
+-- there, a refusal what was there
+abbrev pub leftBy : Judged → (Layout → List ℕ) → List ℕ → List ℕ
+leftBy (answer.Accepted a) orderOf lent = inFront (orderOf (a .layout)) lent
+leftBy (answer.Refused x) orderOf lent = lent
 
--- what a judgement leaves in words lent for the order: the order o in front of what was there, or what was there
-abbrev pub leftBy : Judgement → List ℕ → List ℕ → List ℕ
-leftBy j o lent = cond (comesLate j) (inFront o lent) lent
+-- the reported order of words laid out so
+abbrev pub orderIn : List ℕ → Layout → List ℕ
+orderIn words l = wordsOfOrder (formulaIn words l) (proposalIn words l)
 
-abbrev pub leftAs : List ℕ → Checked → List ℕ → List ℕ
-leftAs words (Refused r) lent = lent
-leftAs words (Sound l) lent =
-    leftBy (judge (l .variables) (formulaIn words l) (proposalIn words l)) (wordsOfOrder (formulaIn words l) (proposalIn words l)) lent
-
--- what is left in words lent for the order
+-- what is left in words lent for the reported order
 unfoldable pub orderLeft : List ℕ → List ℕ → List ℕ
-orderLeft words lent = leftAs words (checked words) lent
+orderLeft words lent = leftBy (judgedOf words) (orderIn words) lent
 
--- The answer to any words, and what is left in the words lent for the order: where it is an acceptance, the reported order stands
--- at their front.
+-- the answer to any words, and what is left in the words lent for the order
 pub record JudgedInto (words lent left : List ℕ) (r : Judged) : Type 0 where
   pub answered : r ≡ judgedOf words
   pub left-so : left ≡ orderLeft words lent
-  pub ordered : (l : Layout) (t : ℕ) → r ≡ acceptedWith l t → take (l .chosen) left ≡ wordsOfOrder (formulaIn words l) (proposalIn words l)
 
 -- What an acceptance says: sound words, whose strategy section is an assignment strategy of their formula (document 001,
 -- Definition 4), with t transitions, at most 65,535.
@@ -112,12 +105,14 @@ pub record Covered (rows reads chosen : List ℕ) (#V #N : ℕ) : Type 0 where
   pub none-doubled : doubled #V (formulaOf rows reads) (proposalOf chosen) ≡ []
 
 module _ (rows reads chosen : List ℕ) (l : Layout) (lent left : List ℕ) (r : Judged) where
-  -- the answer of the last two checks, and of all five; and what is left in the words lent for the order
-  pub record OrderedParts : Type 0 where
-    pub answered : r ≡ answerOf l (judgeOrder (l .variables) (formulaOf rows reads) (proposalOf chosen))
-    pub left-so : left ≡ inFront (wordsOfOrder (formulaOf rows reads) (proposalOf chosen)) lent
+  -- a judgement of parts: its answer, and what it leaves in the words lent for the order
+  pub record JudgedBy (j : Judgement) : Type 0 where
+    pub answered : r ≡ answerOf l j
+    pub left-so : left ≡ leftBy (answerOf l j) (λ _. wordsOfOrder (formulaOf rows reads) (proposalOf chosen)) lent
 
-  pub record JudgedParts : Type 0 where
-    pub answered : r ≡ answerOf l (judge (l .variables) (formulaOf rows reads) (proposalOf chosen))
-    pub left-so : left
-        ≡ leftBy (judge (l .variables) (formulaOf rows reads) (proposalOf chosen)) (wordsOfOrder (formulaOf rows reads) (proposalOf chosen)) lent
+  -- the last two checks, and all five
+  abbrev pub OrderedParts : Type 0
+  OrderedParts = JudgedBy (judgeOrder (l .variables) (formulaOf rows reads) (proposalOf chosen))
+
+  abbrev pub JudgedParts : Type 0
+  JudgedParts = JudgedBy (judge (l .variables) (formulaOf rows reads) (proposalOf chosen))

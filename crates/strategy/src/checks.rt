@@ -8,6 +8,7 @@ ghost use Rattle.strategy.specs.Judge.{Parts, Covered, OrderedParts, Jud
 use cover::Covering;
 use cover::covering_of;
 use cycles::lowest_on_cycle;
+use filling::copy_words;
 use marks::marks_of;
 use net::note_net;
 use ordering::order;
@@ -17,7 +18,7 @@ use verdict::counted;
 use verdict::first_stranger;
 use verdict::refused;
 
-// 13, and what follows it.
+// 13, and what follows it. The order is worked out in an array of its own: only an acceptance writes to `out`.
 fn ordered(
     rows: &[u16],
     reads: &[u16],
@@ -32,12 +33,18 @@ fn ordered(
     let n = l.rows as u16;
     let mut net = [0u16; 11264];
     note_net(rows, chosen, n, &mut net);
-    let placed = order(rows, reads, chosen, &net, n, out);
+    let mut reported = [0u16; 2048];
+    let placed = order(rows, reads, chosen, &net, n, &mut reported);
     if placed < chosen.len() {
         let k = lowest_on_cycle(rows, reads, chosen, &net, n);
         return refused(13, chosen[k]);
     }
-    counted(rows, marks, l)
+    let judged = counted(rows, marks, l);
+    let Judged::Accepted(_) = judged else {
+        return judged;
+    };
+    copy_words(&reported, placed, out);
+    judged
 }
 
 // 10, 11, 12, and what follows them.

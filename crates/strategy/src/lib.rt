@@ -8,8 +8,8 @@ use verdict::Judged;
 
 mod checks; // 10 to 14, one after another
 
-// The answer to any words, with the reported order of an accepted table in the first S words of `order`. The caller says that the
-// array has its length: a loan of one does not tell.
+// The answer to any words, with the reported order of an accepted table in the first S words of `order`; a refusal leaves all of them
+// as they were. The caller says that the array has its length: a loan of one does not tell.
 pub fn judge_into(words: &[u16], order: &mut [u16; 2048]) -> Judged
     requires { ⌜ length (now order) ≡ 2048 ⌝ }
     ensures { λ r. ⌜ JudgedInto (now (words .entry)) (now (order .entry)) (now (order .exit)) r ⌝ }

@@ -1,65 +1,53 @@
--- Accepted bytes are listed by their words and their order, which the judgement leaves.
-use mathlib.Core.Path.{refl, sym, _∙_}
+-- The words of the bytes stand in front, they are judged, and the listing is written from what that leaves.
+use mathlib.Core.Path.{refl, sym}
 use borrow.Author.Needs.{needs}
 use lib.Seq.{length-take-le}
-use Rattle.lister.proofs.Asked.{accepted-bytes, order-long}
+use Rattle.input.proofs.BytePairs.{words-front}
+use Rattle.lister.proofs.Asked.{prepared, order-long}
 use Rattle.lister.proofs.list.Statement.{statement}
 use Rattle.lister.proofs.list.Tie as tie
 
-slice-aggregate-judge-bytes : tie.Need-slice-aggregate-judge-bytes
-slice-aggregate-judge-bytes c = search needs
+slice-aggregate-fill-words : tie.Need-slice-aggregate-fill-words
+slice-aggregate-fill-words c = search needs
 
-judge-bytes-requires : tie.Need-judge-bytes-requires
-judge-bytes-requires c κs = search needs
-
-enum-known-judged : tie.Need-enum-known-judged
-enum-known-judged c = search needs
+fill-words-requires : tie.Need-fill-words-requires
+fill-words-requires c κs = search needs
 
 array-share-prefix-words : tie.Need-array-share-prefix-words
 array-share-prefix-words c = search needs
 
-slice-aggregate-list-accepted : tie.Need-slice-aggregate-list-accepted
-slice-aggregate-list-accepted c = sym (length-take-le _ _ (search needs))
+slice-aggregate-judge-bytes : tie.Need-slice-aggregate-judge-bytes
+slice-aggregate-judge-bytes c = sym (length-take-le _ _ (search needs))
 
-slice-aggregate-list-accepted-2 : tie.Need-slice-aggregate-list-accepted-2
-slice-aggregate-list-accepted-2 c =
-    let j = c .before .before .before in
-    let ju = j .before .before .before in
-    sym (order-long (ju .judge-bytes .ensures) (j .judged .given .1) refl)
+judge-bytes-requires : tie.Need-judge-bytes-requires
+judge-bytes-requires c κs = (c .before .before .before .before .before .before .pre, words-front (c .before .before .before .fill-words .ensures), refl)
 
-list-accepted-requires : tie.Need-list-accepted-requires
-list-accepted-requires c κs =
-    let ju = c .before .before .before in
-    let jud = ju .before .before .before in
-    accepted-bytes (jud .judge-bytes .ensures) (ju .judged .given .1)
+array-share-prefix-words-2 : tie.Need-array-share-prefix-words-2
+array-share-prefix-words-2 c = search needs
 
-enum-known-judged-2 : tie.Need-enum-known-judged-2
-enum-known-judged-2 c = search needs
+slice-aggregate-write-listing : tie.Need-slice-aggregate-write-listing
+slice-aggregate-write-listing c = sym (length-take-le _ _ (search needs))
 
-list-refused-requires : tie.Need-list-refused-requires
-list-refused-requires c κs =
-    let j = c .before in
-    let ju = j .before .before .before in
-    sym (ju .judge-bytes .ensures .answered) ∙ j .judged2 .given .1
+slice-aggregate-write-listing-2 : tie.Need-slice-aggregate-write-listing-2
+slice-aggregate-write-listing-2 c = sym (order-long (c .before .before .judge-bytes .ensures) refl)
+
+write-listing-requires : tie.Need-write-listing-requires
+write-listing-requires c κs = prepared (c .before .before .judge-bytes .ensures) (words-front (c .before .before .before .before .before .before .fill-words .ensures))
 
 returns : tie.Need-returns
 returns c = search needs
-
-returns-2 : tie.Need-returns-2
-returns-2 c = search needs
 
 pub list-spec : {M : Type 1} → statement M
 list-spec =
     tie.close
     (tie.spec
+    slice-aggregate-fill-words
+    fill-words-requires
+    array-share-prefix-words
     slice-aggregate-judge-bytes
     judge-bytes-requires
-    enum-known-judged
-    array-share-prefix-words
-    slice-aggregate-list-accepted
-    slice-aggregate-list-accepted-2
-    list-accepted-requires
-    enum-known-judged-2
-    list-refused-requires
-    returns
-    returns-2)
+    array-share-prefix-words-2
+    slice-aggregate-write-listing
+    slice-aggregate-write-listing-2
+    write-listing-requires
+    returns)

@@ -1,9 +1,11 @@
--- The net is noted, the order filled in from it, and what it leaves decides: a cycle, or the count.
+-- The net is noted, the order worked out from it, and what it leaves decides: a cycle, or the count. Where the count accepts, the order
+-- is copied.
 use native.Mathlib.Omega.{arith}
 use mathlib.Core.Path.{refl}
+use denote.Ref.{now}
 use Rattle.strategy.proofs.Held.{walkable}
 use Rattle.strategy.proofs.Placed.{choice, readied}
-use Rattle.strategy.proofs.Answers.{cycle-there, cycle-refused, order-counted}
+use Rattle.strategy.proofs.Answers.{cycle-there, cycle-refused, order-there, count-refused, count-accepted}
 use borrow.Author.Needs.{needs}
 use Rattle.strategy.proofs.checks.ordered.Statement.{statement}
 use Rattle.strategy.proofs.checks.ordered.Tie as tie
@@ -15,29 +17,21 @@ note-net-requires : tie.Need-note-net-requires
 note-net-requires c κs = (choice (c .before .before .before .before .before .pre .0), refl)
 
 order-requires : tie.Need-order-requires
-order-requires c κs =
-    let n = c .before .before in
-    let a = n .before .before .before .before .before .before in
-    (readied (a .pre .0) (n .note-net .ensures .noted), a .pre .2)
+order-requires c κs = (readied (c .before .before .before .before .before .before .before .before .pre .0) (c .before .before .note-net .ensures .noted), refl)
 
 lowest-on-cycle-requires : tie.Need-lowest-on-cycle-requires
-lowest-on-cycle-requires c κs =
-    let o = c .before .before in
-    let a = o .before .before .before .before .before .before .before .before .before in
-    readied (a .pre .0) (o .before .before .before .note-net .ensures .noted)
+lowest-on-cycle-requires c κs = readied (c .before .before .before .before .before .before .before .before .before .before .before .pre .0) (c .before .before .before .before .before .note-net .ensures .noted)
 
 mul-refused : tie.Need-mul-refused
 mul-refused c =
-    let o = c .before .before .before in
-    let a = o .before .before .before .before .before .before .before .before .before in
-    let (h, f) = cycle-there (a .args .l) (a .pre .0) (o .order .ensures) (c .before .before .if1 .taken) (c .lowest-on-cycle .ensures) in
+    let a = c .before .before .before .before .before .before .before .before .before .before .before .before in
+    let (h, f) = cycle-there (a .args .l) (a .pre .0) (c .before .before .before .order .ensures) (c .before .before .if1 .taken) (c .lowest-on-cycle .ensures) in
     omega arith
 
 shared-slice-read-refused : tie.Need-shared-slice-read-refused
 shared-slice-read-refused c =
-    let o = c .before .before .before .before in
-    let a = o .before .before .before .before .before .before .before .before .before in
-    let (h, f) = cycle-there (a .args .l) (a .pre .0) (o .order .ensures) (c .before .before .before .if1 .taken) (c .before .lowest-on-cycle .ensures) in
+    let a = c .before .before .before .before .before .before .before .before .before .before .before .before .before in
+    let (h, f) = cycle-there (a .args .l) (a .pre .0) (c .before .before .before .before .order .ensures) (c .before .before .before .if1 .taken) (c .before .lowest-on-cycle .ensures) in
     omega arith
 
 refused-requires : tie.Need-refused-requires
@@ -45,19 +39,32 @@ refused-requires c κs = search needs
 
 returns : tie.Need-returns
 returns c =
-    let o = c .before .before .before .before .before in
-    let a = o .before .before .before .before .before .before .before .before .before in
-    cycle-refused _ (a .pre .0) (o .order .ensures) (c .before .before .before .before .if1 .taken) (c .before .before .lowest-on-cycle .ensures)
-    (c .refused .ensures)
+    let a = c .before .before .before .before .before .before .before .before .before .before .before .before .before .before in
+    cycle-refused _ (a .pre .0) (c .before .before .before .before .before .order .ensures) _ (c .before .before .before .before .if1 .taken) (c .before .before .lowest-on-cycle .ensures) (c .refused .ensures)
 
 counted-requires : tie.Need-counted-requires
 counted-requires c κs = walkable (c .before .before .before .before .before .before .before .before .before .before .pre .0 .parts)
 
+enum-told : tie.Need-enum-told
+enum-told c = search needs
+
+enum-told-2 : tie.Need-enum-told-2
+enum-told-2 c = search needs
+
 returns-2 : tie.Need-returns-2
 returns-2 c =
-    let o = c .before .before in
-    let a = o .before .before .before .before .before .before .before .before .before in
-    order-counted _ (a .pre .0) (o .order .ensures) (c .before .if1 .left) (a .pre .1) (c .counted .ensures)
+    let a = c .before .before .before .before .before .before .before .before .before .before .before .before .before in
+    count-refused _ (a .pre .0) (c .before .before .before .before .order .ensures) (c .before .before .before .if1 .left) (a .pre .1) (c .before .before .counted .ensures) _ (c .enum-told2 .given .1)
+
+copy-words-requires : tie.Need-copy-words-requires
+copy-words-requires c κs =
+    let a = c .before .before .before .before .before .before .before .before .before .before .before .before .before .before .before in
+    order-there (a .args .l) (a .pre .0) (c .before .before .before .before .before .before .order .ensures) (now (a .args .out)) (a .pre .2)
+
+returns-3 : tie.Need-returns-3
+returns-3 c =
+    let a = c .before .before .before .before .before .before .before .before .before .before .before .before .before .before .before .before in
+    count-accepted _ (a .pre .0) (c .before .before .before .before .before .before .before .order .ensures) (c .before .before .before .before .before .before .if1 .left) (a .pre .1) (c .before .before .before .before .before .counted .ensures) (c .before .before .before .enum-told .given .1) (c .copy-words .ensures)
 
 pub ordered-spec : {M : Type 1} → statement M
 ordered-spec =
@@ -72,4 +79,8 @@ ordered-spec =
     refused-requires
     returns
     counted-requires
-    returns-2)
+    enum-told
+    enum-told-2
+    returns-2
+    copy-words-requires
+    returns-3)
