@@ -15,3 +15,4 @@ pub mod Structure
 pub mod Statements
 pub mod Cases
 pub mod FurtherCases
+pub mod ManyTransitions
