@@ -10,10 +10,10 @@ use lib.Dec.{eqb, ltb}
 use lib.ListN.{length, drop}
 use borrow.Author.Tests.{eqb-false, ltb-false}
 use Rattle.paper.specs.Lists.{anyOf, allOf, those}
-use Rattle.paper.specs.Formula.{Label, Variable, ℓ, has, holds, Formula, labels, isCandidate, candidates, same, WellFormed}
+use Rattle.paper.specs.Formula.{Label, Variable, ℓ, has, holds, Star, Candidate, Formula, labels, isCandidate, candidates, same, WellFormed}
 use Rattle.paper.specs.Branch.{branches}
-use Rattle.paper.specs.Frozen.{sites, frozen}
-use Rattle.paper.specs.Before.{before, shareBranch}
+use Rattle.paper.specs.Frozen.{Site, sites, frozen, readBy}
+use Rattle.paper.specs.Before.{before, depends, shareBranch}
 use Rattle.paper.specs.Order.{leads}
 use Rattle.paper.specs.Strategy.{chosenOn, MinimalCovering}
 use Rattle.paper.specs.Transition.{keys}
@@ -90,15 +90,26 @@ silent-holds-none : (vs : List Variable) (v : Variable) → isSilent vs ≡ true
 silent-holds-none [] v h = refl
 silent-holds-none (w ∷ vs) v h = absurd (false≢true h)
 
+silent-stars : (ss : List Star) (v : Variable) → allOf (λ t. isSilent (t .reads)) ss ≡ true → readBy ss v ≡ false
+silent-stars [] v h = refl
+silent-stars (s ∷ ss) v h = rw (silent-holds-none (s .reads) v (and-left (isSilent (s .reads)) _ h)) (silent-stars ss v (and-right (isSilent (s .reads)) _ h))
+
 module _ (f : Formula) (A : List Label) (quiet : silent f ≡ true) where
+  nothing-frozen : (j : Label) (v : Variable) → frozen f j v ≡ false
+  nothing-frozen j v = not-so (frozen f j v) λ h. at (site-of-frozen f j v h)
+    where
+      at : (s : Site) × List·Memᴰ s (sites f) × (j ≡ s .label) × (readBy (s .stars) v ≡ true) → ⊥
+      at (s, t, e, reads) = false≢true (sym (silent-stars (s .stars) v (of-all (λ s. allOf (λ t. isSilent (t .reads)) (s .stars)) quiet t)) ∙ reads)
+
+  nothing-depends : (i j : Label) → depends f i j ≡ false
+  nothing-depends i j = not-so (depends f i j) λ h. at (of-any (λ c. same i (c .label) && frozen f j (c .variable)) (candidates f) h)
+    where
+      at : (c : Candidate) × List·Memᴰ c (candidates f) × ((same i (c .label) && frozen f j (c .variable)) ≡ true) → ⊥
+      at (c, t, e) = false≢true (sym (nothing-frozen j (c .variable)) ∙ and-right (same i (c .label)) _ e)
+
   nothing-before : (i j : Label) → before f A i j ≡ false
-  nothing-before i j = not-so _ λ h.
-      let d = and-right (shareBranch f i j) _ (and-right (has A j) _ (and-right (has A i) _ h)) in
-      let (c, t, e) = of-any (λ c. same i (c .label) && frozen f j (c .variable)) (candidates f) d in
-      let (s, u, q, r) = site-of-frozen f j (c .variable) (and-right (same i (c .label)) _ e) in
-      let (star, w, reads) = of-any (λ s. holds (s .reads) (c .variable)) (s .stars) r in
-      let mute = of-all (λ t. isSilent (t .reads)) (of-all (λ s. allOf (λ t. isSilent (t .reads)) (s .stars)) quiet u) w in
-      false≢true (sym (silent-holds-none (star .reads) (c .variable) mute) ∙ reads)
+  nothing-before i j = not-so (before f A i j) λ h.
+      false≢true (sym (nothing-depends i j) ∙ and-right (shareBranch f i j) _ (and-right (has A j) _ (and-right (has A i) _ h)))
 
   no-cycles : onCycles f A ≡ []
   no-cycles = to-none (λ l. leads (before f A) A l l) A (λ l t. no-lead (before f A) nothing-before A l l)
