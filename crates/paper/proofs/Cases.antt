@@ -29,10 +29,10 @@ module _ (#V : ℕ) where
   abbrev isBelow : Variable → Bool
   isBelow v = ltb (v .0) #V
 
-  abbrev isWellFormed : Formula → Bool
+  abbrev pub isWellFormed : Formula → Bool
   isWellFormed f = rises 0 (labels f) && (allOf (λ c. isBelow (c .variable)) (candidates f) && allOf (λ s. allOf isBelow (s .reads)) (stars f))
 
-  of-well-formed : (f : Formula) → isWellFormed f ≡ true → WellFormed #V f
+  pub of-well-formed : (f : Formula) → isWellFormed f ≡ true → WellFormed #V f
   of-well-formed f h =
       let h′ = and-right (rises 0 (labels f)) _ h in
       let inside = and-left (allOf (λ c. isBelow (c .variable)) (candidates f)) _ h′ in

@@ -20,4 +20,5 @@ pub mod KeyLists
 pub mod Numbers
 pub mod Cases
 pub mod FurtherCases
+pub mod ManyTransitions
 pub mod Theorems

@@ -16,3 +16,4 @@ pub mod Examples
 pub mod Statements
 pub mod Cases
 pub mod FurtherCases
+pub mod ManyTransitions
