@@ -22,10 +22,9 @@ use std::fs::{self, File};
 use std::path::Path;
 use std::process::{Command, ExitCode, Output};
 use tables::cases::{self, Case};
+use tables::extremes::{extremes, longest_accepted, longest_refused};
 use tables::Formula::{And, Or};
-use tables::{
-    damage, edges, extremes, large, many, named, random, set, test, typical, worst, write, Named,
-};
+use tables::{damage, edges, large, many, random, set, test, typical, worst, write, Named};
 
 /// The words of a table as a file has them.
 fn bytes_of(words: &[u16]) -> Vec<u8> {
@@ -128,7 +127,7 @@ impl Run {
             cases::starred(),
             cases::unstarred(),
             edges::edges(),
-            extremes::extremes(),
+            extremes(),
         ];
         for Case { table, .. } in cases.iter().flatten() {
             self.table(table)?;
@@ -150,18 +149,25 @@ impl Run {
         let refused = longest_refused();
         let mut descends = refused.clone();
         descends[29_699] = 4_094;
-        let mut one_more = refused.clone();
-        one_more.push(0);
-        let cut = refused[..29_699].to_vec();
-        self.table(&named("29,700 words", refused))?;
-        self.table(&named("29,700 words, the last not above", descends))?;
-        self.table(&named("29,701 words", one_more))?;
-        self.table(&named("29,699 of 29,700 words", cut))?;
-        let accepted = named("27,651 words", longest_accepted());
-        let bytes = bytes_of(&accepted.words);
-        self.table(&accepted)?;
-        self.in_pieces(&accepted.name, &bytes, 4_097)?;
-        self.in_pieces(&accepted.name, &bytes, 999)
+        let one_more = [&refused[..], &[0]].concat();
+        self.wanted("refused 9 4095\n", &descends)?;
+        self.wanted("refused 3 29700\n", &one_more)?;
+        self.wanted("refused 1 29699\n", &refused[..29_699])?;
+        self.wanted("refused 10 0\n", &refused)?;
+        let accepted = longest_accepted();
+        self.wanted("accepted 1024 4096 2047 1024\n", &accepted)?;
+        self.in_pieces("27,651 words", &bytes_of(&accepted), 4_097)?;
+        self.in_pieces("27,651 words", &bytes_of(&accepted), 999)
+    }
+
+    /// Lists a table whose first line is typed in.
+    fn wanted(&mut self, first: &str, words: &[u16]) -> Result<(), String> {
+        let title = format!("{} words: {}", words.len(), first.trim_end());
+        let bytes = bytes_of(words);
+        if !listing(&bytes).starts_with(first) {
+            return Err(format!("{title}: the peer says otherwise"));
+        }
+        self.file(&title, &bytes)
     }
 
     /// Files at the most bytes that count: a table and zeros after it, and zeros alone.
@@ -263,26 +269,6 @@ fn with_lines(arms: usize, common: usize, tests: usize) -> Vec<u16> {
     children.extend((1..=common).map(|variable| set(variable, &[])));
     children.extend(vec![test(&[]); tests]);
     write(1 + common, &And(children))
-}
-
-/// Every count at its most.
-fn longest_refused() -> Vec<u16> {
-    let all: Vec<usize> = (0..1_024).collect();
-    let labels: Vec<u16> = (0..4_096).collect();
-    let readers = large::filled(vec![test(&all); 8], 4_096);
-    tables::write_with(1_024, &readers, &labels)
-}
-
-/// 1,024 variables, 8,192 reads, 4,096 rows, 2,047 chosen: each but the first reads the one before,
-/// and the arms of the last read as many as are left.
-fn longest_accepted() -> Vec<u16> {
-    let mut children = large::chosen(0, 1_023, |v| (v.saturating_sub(1)..v).collect());
-    let arm = |i: usize| {
-        let reads: Vec<usize> = (0..7 + (i < 2) as usize).collect();
-        set(1_023, &reads)
-    };
-    children.push(Or((0..1_024).map(arm).collect()));
-    write(1_024, &And(children))
 }
 
 fn main() -> ExitCode {

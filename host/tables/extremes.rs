@@ -15,20 +15,42 @@ pub fn extremes() -> Vec<Case> {
     cases
 }
 
+/// Eight tests that take 8,192 reads.
+fn all_reads() -> Vec<Formula> {
+    let all: Vec<usize> = (0..1_024).collect();
+    vec![test(&all); 8]
+}
+
+/// The longest table, every count at its most: 29,700 words. All labels are chosen, the root too,
+/// which is no candidate.
+pub fn longest_refused() -> Vec<u16> {
+    let labels: Vec<u16> = (0..4_096).collect();
+    write_with(1_024, &filled(all_reads(), 4_096), &labels)
+}
+
+/// The longest accepted table, 27,651 words: 1,024 variables, 8,192 reads, 4,096 rows and 2,047
+/// chosen labels. Variables 1 to 1,022 read the one before, the arms of the last the first ones.
+pub fn longest_accepted() -> Vec<u16> {
+    let mut children = chosen(0, 1_023, |v| (v.saturating_sub(1)..v).collect());
+    let arm = |i: usize| {
+        let reads: Vec<usize> = (0..7 + (i < 2) as usize).collect();
+        set(1_023, &reads)
+    };
+    children.push(Or((0..1_024).map(arm).collect()));
+    write(1_024, &And(children))
+}
+
 /// Every count at its limit, and depth at its limit.
 fn full_counts() -> Vec<Case> {
-    let all_variables: Vec<usize> = (0..1_024).collect();
-    let all_labels: Vec<u16> = (0..4_096).collect();
-    let readers = filled(vec![test(&all_variables); 8], 4_096);
+    let readers = filled(all_reads(), 4_096);
     let wide = filled(chosen(0, 1_024, no_reads), 4_096);
     let odd: Vec<u16> = (0..1_024).map(|i| 2 * i + 1).collect();
     let keep: Vec<u16> = odd.iter().copied().chain(2_049..4_096).collect();
     let counts = [1_024, 4_096, 1_024, 1];
     let deep = |count: usize, formula: Formula| write(1, &wrapped(count, formula));
-    let longest = write_with(1_024, &readers, &all_labels);
     let deep_guard = deep(63, exists(&[], test(&[])));
     vec![
-        refused("29,700 words", longest, 10, 0),
+        refused("29,700 words", longest_refused(), 10, 0),
         refused("nothing chosen", write(1_024, &readers), 11, 0),
         single("1,024 variables", write(1_024, &wide), counts, &odd, &keep),
         refused("a test at depth 64", deep(63, test(&[])), 11, 0),
@@ -80,8 +102,7 @@ fn last_variable() -> Vec<Case> {
 }
 
 /// 1,024 variables in 4,096 rows: `first` for variable 0, candidates of the next 1,022, and 1,024
-/// arms for the last variable, `last` at their end.
-/// The 2,047 candidates are all chosen; more than that no table can have.
+/// arms for the last variable, `last` at their end. All 2,047 candidates are chosen.
 fn crowd(first: Formula, last: Formula) -> Vec<u16> {
     let mut children = vec![first];
     children.extend(chosen(1, 1_023, no_reads));
@@ -91,6 +112,7 @@ fn crowd(first: Formula, last: Formula) -> Vec<u16> {
     write(1_024, &And(children))
 }
 
+/// 2,047 chosen labels: more than that no accepted table has.
 fn most_chosen() -> Vec<Case> {
     let single_variable = write(1, &Or(vec![set(0, &[]); 2_047]));
     let of_one: Vec<u16> = candidates(1, 2_047).collect();
@@ -102,10 +124,10 @@ fn most_chosen() -> Vec<Case> {
     let last_arm = [&[1], &common[..], &[4_094]].concat();
     let last_arm_first_last = [&common[..], &[4_094, 1]].concat();
     let counts = [1_024, 4_096, 2_047, 1_024];
-    let free = crowd(set(0, &[]), set(1_023, &[]));
+    let longest = longest_accepted();
     let waiting = crowd(set(0, &[1_023]), set(1_023, &[]));
     let ring = crowd(set(0, &[1_023]), set(1_023, &[0]));
-    let of_free: [(usize, &[u16], &[u16]); 1] = [(1_023, &last_arm, &last_arm)];
+    let of_longest: [(usize, &[u16], &[u16]); 1] = [(1_023, &last_arm, &last_arm)];
     let of_waiting: [(usize, &[u16], &[u16]); 1] = [(1_023, &last_arm_first_last, &last_arm)];
     vec![
         accepted(
@@ -115,7 +137,7 @@ fn most_chosen() -> Vec<Case> {
             &of_one,
             &ends,
         ),
-        accepted("2,047 chosen", free, counts, &ascending, &of_free),
+        accepted("27,651 words", longest, counts, &ascending, &of_longest),
         accepted(
             "the first waits for the last",
             waiting,
@@ -127,7 +149,7 @@ fn most_chosen() -> Vec<Case> {
     ]
 }
 
-/// Eight tests that take 8,191 reads, or one less, and then `children`.
+/// Eight tests that take all reads but `left`, and then `children`.
 fn after_reads(left: usize, mut children: Vec<Formula>) -> Vec<u16> {
     let all: Vec<usize> = (0..1_024).collect();
     let mut tests = vec![test(&all); 7];
