@@ -5,12 +5,16 @@ use mathlib.Core.List.{List}
 use lib.ListN.{length, take}
 use Rattle.paper.specs.Outcome.{OneAnswer, OneOutcome}
 use Rattle.paper.proofs.Outcome.{by-equation}
-use Rattle.filling.specs.Filling.{Outcome, refuses, unlessShort, filledOf, after, Fills}
+use Rattle.filling.specs.Filling.{Outcome, refuses, unlessShort, filledOf, after, copied, Fills}
 
 pub refused : (number place : ℕ) → OneAnswer (λ r. r ≡ filledOf (refuses number place))
 refused number place = by-equation (filledOf (refuses number place))
 
 module _ (lent : List ℕ) where
+  -- it has no result
+  pub copy-words : (from : List ℕ) (count : ℕ) → OneAnswer (λ left. left ≡ copied from count lent)
+  copy-words from count = by-equation (copied from count lent)
+
   -- what a request does decides all
   pub one-filling : (o : Outcome) → OneOutcome (λ left r. Fills o lent left r)
   one-filling o left other r s p q =
