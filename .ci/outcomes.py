@@ -12,11 +12,7 @@ import re
 import sys
 
 # A function without a statement of a kind, and why: (crate, file, statement): reason
-EXCEPTIONS = {
-    ("strategy", "RefusalLeaves", "judge-into"): "13 and 14 are found after the order is worked out in the lent words",
-    ("strategy", "RefusalLeaves", "judge-parts"): "the same",
-    ("input", "RefusalLeaves", "judge-bytes"): "the words are put in the lent words before they are judged",
-}
+EXCEPTIONS = {}
 
 # What is said, and what a refusal is, by the type of the result.
 SAID = "Rattle.paper.specs.Outcome"

@@ -84,14 +84,16 @@ counts-fit words c e = go (judgedOf words) refl e
         (record { variables-fit = u .most-variables; rows-fit = u .most-rows; chosen-fit = u .most-chosen; transitions-fit = few-transitions words a q })
 
 -- An acceptance leaves the reported order in front of the words that were lent for it.
-module _ (words order₀ order : List ℕ) (a : Accepted) (e : judgedOf words ≡ judged.Accepted a) (stands : order ≡ inFront (orderIn words (a .layout)) order₀) where
+module _ (words order₀ order : List ℕ) (a : Accepted) (e : judgedOf words ≡ judged.Accepted a)
+    (stands : order ≡ inFront (orderIn words (a .layout)) order₀) where
   many : length (orderIn words (a .layout)) ≡ a .layout .chosen
   many = length-map (reported words (a .layout)) (λ x. x .0) ∙ reported-length words a e
 
   pub order-in-front : Ordered words a order
   order-in-front = record {
     accepted = e;
-    in-front = ap (take (a .layout .chosen)) stands ∙ take-at (orderIn words (a .layout)) (drop (length (orderIn words (a .layout))) order₀) (a .layout .chosen) many;
+    in-front = ap (take (a .layout .chosen)) stands
+        ∙ take-at (orderIn words (a .layout)) (drop (length (orderIn words (a .layout))) order₀) (a .layout .chosen) many;
   }
 
   -- it is all there

@@ -3,3 +3,4 @@ pub mod BytesJudged
 pub mod Length
 pub mod Example
 pub mod OneOutcome
+pub mod RefusalLeaves

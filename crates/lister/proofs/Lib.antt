@@ -4,3 +4,4 @@ pub mod Pieces
 pub mod PartsPut
 pub mod Written
 pub mod Example
+pub mod OneOutcome

@@ -5,3 +5,4 @@ pub mod Answers
 pub mod Example
 pub mod Exactly
 pub mod OneOutcome
+pub mod RefusalLeaves

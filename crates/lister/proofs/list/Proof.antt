@@ -32,7 +32,9 @@ slice-aggregate-write-listing-2 : tie.Need-slice-aggregate-write-listing-2
 slice-aggregate-write-listing-2 c = sym (order-long (c .before .before .judge-bytes .ensures) refl)
 
 write-listing-requires : tie.Need-write-listing-requires
-write-listing-requires c κs = prepared (c .before .before .judge-bytes .ensures) (words-front (c .before .before .before .before .before .before .fill-words .ensures))
+write-listing-requires c κs =
+    let fi = c .before .before .before .before .before .before in
+    prepared (c .before .before .judge-bytes .ensures) (words-front (fi .fill-words .ensures))
 
 returns : tie.Need-returns
 returns c = search needs

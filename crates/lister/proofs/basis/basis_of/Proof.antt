@@ -22,33 +22,54 @@ part-marks-of-end : tie.Need-part-marks-of-end
 part-marks-of-end c = search needs
 
 marks-of-requires : tie.Need-marks-of-requires
-marks-of-requires c κs = let e = c .before .before .before .before .before .before .pre _ (c .before .before .before .judged .given .1) in lent-below _ _ e 4096 (rows-fit _ _ e)
+marks-of-requires c κs =
+    let ju = c .before .before .before in
+    let s = ju .before .before .before in
+    let e = s .pre _ (ju .judged .given .1) in lent-below _ _ e 4096 (rows-fit _ _ e)
 
 mul-keys-of : tie.Need-mul-keys-of
-mul-keys-of c = let r = parts-reached _ _ (c .before .before .before .before .before .before .before .pre _ (c .before .before .before .before .judged .given .1)) in omega arith
+mul-keys-of c =
+    let ju = c .before .before .before .before in
+    let s = ju .before .before .before in
+    let r = parts-reached _ _ (s .pre _ (ju .judged .given .1)) in omega arith
 
 sub-keys-of : tie.Need-sub-keys-of
-sub-keys-of c = let r = parts-reached _ _ (c .before .before .before .before .before .before .before .pre _ (c .before .before .before .before .judged .given .1)) in omega arith
+sub-keys-of c =
+    let ju = c .before .before .before .before in
+    let s = ju .before .before .before in
+    let r = parts-reached _ _ (s .pre _ (ju .judged .given .1)) in omega arith
 
 part-keys-of-start : tie.Need-part-keys-of-start
-part-keys-of-start c = let r = parts-reached _ _ (c .before .before .before .before .before .before .before .pre _ (c .before .before .before .before .judged .given .1)) in omega arith
+part-keys-of-start c =
+    let ju = c .before .before .before .before in
+    let s = ju .before .before .before in
+    let r = parts-reached _ _ (s .pre _ (ju .judged .given .1)) in omega arith
 
 part-keys-of-end : tie.Need-part-keys-of-end
 part-keys-of-end c = search needs
 
 cast-keys-of : tie.Need-cast-keys-of
-cast-keys-of c = let r = rows-fit _ _ (c .before .before .before .before .before .before .before .before .before .before .pre _ (c .before .before .before .before .before .before .before .judged .given .1)) in search needs
+cast-keys-of c =
+    let ju = c .before .before .before .before .before .before .before in
+    let s = ju .before .before .before in
+    let r = rows-fit _ _ (s .pre _ (ju .judged .given .1)) in search needs
 
 keys-of-requires : tie.Need-keys-of-requires
-keys-of-requires c κs = lent-walkable _ _ (c .before .before .before .before .before .before .before .before .before .before .pre _ (c .before .before .before .before .before .before .before .judged .given .1))
+keys-of-requires c κs =
+    let ju = c .before .before .before .before .before .before .before in
+    let s = ju .before .before .before in
+    lent-walkable _ _ (s .pre _ (ju .judged .given .1))
 
 enum-told : tie.Need-enum-told
 enum-told c = search needs
 
 returns : tie.Need-returns
 returns c =
-    let e = c .before .before .before .before .before .before .before .before .judged .given .1 in
-    accepted-basis e (c .before .before .before .before .before .before .before .before .before .before .before .pre _ e) (c .before .before .before .before .marks-of .ensures .marked) (c .keys-of .ensures .0)
+    let ma = c .before .before .before .before in
+    let ju = ma .before .before .before .before in
+    let s = ju .before .before .before in
+    let e = ju .judged .given .1 in
+    accepted-basis e (s .pre _ e) (ma .marks-of .ensures .marked) (c .keys-of .ensures .0)
 
 returns-2 : tie.Need-returns-2
 returns-2 c = refused-basis (c .enum-told .given .1)

@@ -19,16 +19,24 @@ sub-left : tie.Need-sub-left Inv-loop μ-loop
 sub-left c = search needs
 
 mul-most : tie.Need-mul-most Inv-loop μ-loop
-mul-most c = let m = is-understood _ _ (c .before .before .before .before .before .before .pre .0 .ordered .accepted) in omega (arith, m .most-variables, m .most-rows)
+mul-most c =
+    let s = c .before .before .before .before .before .before in
+    let m = is-understood _ _ (s .pre .0 .ordered .accepted) in omega (arith, m .most-variables, m .most-rows)
 
 add-most : tie.Need-add-most Inv-loop μ-loop
-add-most c = let m = is-understood _ _ (c .before .before .before .before .before .before .pre .0 .ordered .accepted) in omega (arith, m .most-variables, m .most-rows)
+add-most c =
+    let s = c .before .before .before .before .before .before in
+    let m = is-understood _ _ (s .pre .0 .ordered .accepted) in omega (arith, m .most-variables, m .most-rows)
 
 mul-most-2 : tie.Need-mul-most-2 Inv-loop μ-loop
-mul-most-2 c = let m = is-understood _ _ (c .before .before .before .before .before .before .before .pre .0 .ordered .accepted) in omega (arith, m .most-variables, m .most-rows)
+mul-most-2 c =
+    let s = c .before .before .before .before .before .before .before in
+    let m = is-understood _ _ (s .pre .0 .ordered .accepted) in omega (arith, m .most-variables, m .most-rows)
 
 add-most-2 : tie.Need-add-most-2 Inv-loop μ-loop
-add-most-2 c = let m = is-understood _ _ (c .before .before .before .before .before .before .before .pre .0 .ordered .accepted) in omega (arith, m .most-variables, m .most-rows)
+add-most-2 c =
+    let s = c .before .before .before .before .before .before .before in
+    let m = is-understood _ _ (s .pre .0 .ordered .accepted) in omega (arith, m .most-variables, m .most-rows)
 
 loop-holds : tie.Need-loop-holds Inv-loop μ-loop
 loop-holds c = putting-begins _ _
@@ -45,12 +53,16 @@ returns c =
     record { many = no-room _ _ i (omega (arith, put-length (i .put), c .if1 .taken)); put = i .put }
 
 add-put-line : tie.Need-add-put-line Inv-loop μ-loop
-add-put-line c = let m = few-transitions _ _ (c .before .before .before .before .before .before .before .before .before .before .pre .0 .ordered .accepted) in search needs
+add-put-line c =
+    let s = c .before .before .before .before .before .before .before .before .before .before in
+    let m = few-transitions _ _ (s .pre .0 .ordered .accepted) in search needs
 
 put-line-requires : tie.Need-put-line-requires Inv-loop μ-loop
 put-line-requires c κs =
-    let i = c .before .before .before .loop .inv in
-    (c .before .before .before .before .before .before .before .before .before .before .before .pre .0, omega (arith, c .before .before .loop-test .taken), omega (arith, i .put .within, put-length (i .put), c .before .if1 .left))
+    let l = c .before .before .before in
+    let s = l .before .before .before .before .before .before .before .before in
+    let i = l .loop .inv in
+    (s .pre .0, omega (arith, c .before .before .loop-test .taken), omega (arith, i .put .within, put-length (i .put), c .before .if1 .left))
 
 add-count : tie.Need-add-count Inv-loop μ-loop
 add-count c = search needs
@@ -60,8 +72,11 @@ loop-less c = search needs
 
 loop-again : tie.Need-loop-again Inv-loop μ-loop
 loop-again c =
-    let i = c .before .before .before .before .before .before .loop .inv in
-    putting-goes-on _ _ i (c .before .before .before .before .before .loop-test .taken) (omega (arith, put-length (i .put), c .before .before .before .before .if1 .left)) (c .before .before .put-line .ensures)
+    let b = c .before .before .before .before in
+    let t = b .before in
+    let l = t .before in
+    let i = l .loop .inv in
+    putting-goes-on _ _ i (t .loop-test .taken) (omega (arith, put-length (i .put), b .if1 .left)) (c .before .before .put-line .ensures)
 
 same-length-2 : tie.Need-same-length-2 Inv-loop μ-loop
 same-length-2 c = put-length (c .before .loop .inv .put)

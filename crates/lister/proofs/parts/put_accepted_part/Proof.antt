@@ -13,7 +13,10 @@ same-length : tie.Need-same-length
 same-length c = search needs
 
 returns : tie.Need-returns
-returns c = head-part (c .before .before .before .before .before .before .before .before .pre .0 .ordered) (c .before .before .before .before .if1 .taken) (c .before .before .put-head .ensures)
+returns c =
+    let b = c .before .before .before .before in
+    let s = b .before .before .before .before in
+    head-part (s .pre .0 .ordered) (b .if1 .taken) (c .before .before .put-head .ensures)
 
 sub-put-lines : tie.Need-sub-put-lines
 sub-put-lines c = search needs
@@ -22,13 +25,20 @@ put-lines-requires : tie.Need-put-lines-requires
 put-lines-requires c κs = search needs
 
 add-t13 : tie.Need-add-t13
-add-t13 c = let few = lines-few (c .before .before .before .before .before .before .before .before .before .pre .0 .ordered) (c .before .before .before .before .before .before .before .before .before .pre .1) (c .before .before .before .put-lines .ensures) in search needs
+add-t13 c =
+    let pu = c .before .before .before in
+    let s = pu .before .before .before .before .before .before in
+    let few = lines-few (s .pre .0 .ordered) (s .pre .1) (pu .put-lines .ensures) in search needs
 
 same-length-2 : tie.Need-same-length-2
 same-length-2 c = search needs
 
 returns-2 : tie.Need-returns-2
-returns-2 c = lines-part (c .before .before .before .before .before .before .before .before .before .pre .0 .ordered) (c .before .before .before .before .before .if1 .left) (c .before .before .before .put-lines .ensures)
+returns-2 c =
+    let pu = c .before .before .before in
+    let b = pu .before .before in
+    let s = b .before .before .before .before in
+    lines-part (s .pre .0 .ordered) (b .if1 .left) (pu .put-lines .ensures)
 
 pub put-accepted-part-spec : {M : Type 1} → statement M
 put-accepted-part-spec =

@@ -35,42 +35,74 @@ loop-holds c = writing-begins (c .nothing-yet .ensures) (sym (c .before .large-b
 
 -- the next piece is one
 below : (c : tie.In-loop Inv-loop μ-loop) → c .before .loop .next < pieces (c .before .before .before .before .before .before .before .before .before .before .args .judged)
-below c = omega (arith, c .loop-test .taken, c .before .before .before .before .pieces-of .ensures)
+below c =
+    let pi = c .before .before .before .before in
+    omega (arith, c .loop-test .taken, pi .pieces-of .ensures)
 
 slice-aggregate-put-part : tie.Need-slice-aggregate-put-part Inv-loop μ-loop
 slice-aggregate-put-part c = search needs
 
 put-part-requires : tie.Need-put-part-requires Inv-loop μ-loop
-put-part-requires c κs = (listable-if (c .before .before .before .before .before .before .before .before .before .before .before .before .pre) (c .before .before .before .before .before .before .before .before .basis-of .ensures), below (c .before .before), c .before .before .before .loop .inv .room)
+put-part-requires c κs =
+    let l = c .before .before .before in
+    let b = l .before .before .before .before .before in
+    let s = b .before .before .before .before in
+    (listable-if (s .pre) (b .basis-of .ensures), below (c .before .before), l .loop .inv .room)
 
 array-share-prefix-text : tie.Need-array-share-prefix-text Inv-loop μ-loop
-array-share-prefix-text c = length-there (c .before .before .before .before .before .before .before .before .before .before .before .before .before .before .pre) (c .before .before .before .before .before .loop .inv) (below (c .before .before .before .before)) (c .before .put-part .ensures)
+array-share-prefix-text c =
+    let t = c .before .before .before .before in
+    let l = t .before in
+    let s = l .before .before .before .before .before .before .before .before .before in
+    length-there (s .pre) (l .loop .inv) (below t) (c .before .put-part .ensures)
 
 slice-aggregate-write-next : tie.Need-slice-aggregate-write-next Inv-loop μ-loop
-slice-aggregate-write-next c = sym (length-take-le _ _ (length-there (c .before .before .before .before .before .before .before .before .before .before .before .before .before .before .before .pre) (c .before .before .before .before .before .before .loop .inv) (below (c .before .before .before .before .before)) (c .before .before .put-part .ensures)))
+slice-aggregate-write-next c =
+    let t = c .before .before .before .before .before in
+    let l = t .before in
+    let s = l .before .before .before .before .before .before .before .before .before in
+    sym (length-take-le _ _ (length-there (s .pre) (l .loop .inv) (below t) (c .before .before .put-part .ensures)))
 
 write-next-requires : tie.Need-write-next-requires Inv-loop μ-loop
-write-next-requires c κs = next-part (c .before .before .before .before .before .before .before .before .before .before .before .before .before .before .before .pre) (c .before .before .before .before .before .before .loop .inv) (below (c .before .before .before .before .before)) (c .before .before .put-part .ensures)
+write-next-requires c κs =
+    let t = c .before .before .before .before .before in
+    let l = t .before in
+    let s = l .before .before .before .before .before .before .before .before .before in
+    next-part (s .pre) (l .loop .inv) (below t) (c .before .before .put-part .ensures)
 
 is-whole-requires : tie.Need-is-whole-requires Inv-loop μ-loop
 is-whole-requires c κs = search needs
 
 returns : tie.Need-returns Inv-loop μ-loop
 returns c =
-    writing-stops (c .before .before .before .before .before .before .before .before .before .before .before .before .before .before .before .before .before .before .pre) (c .before .before .before .before .before .before .before .before .before .loop .inv) (c .before .before .write-next .ensures) (sym (c .before .is-whole .ensures) ∙ not-true _ (c .if1 .taken))
+    let l = c .before .before .before .before .before .before .before .before .before in
+    let s = l .before .before .before .before .before .before .before .before .before in
+    writing-stops (s .pre) (l .loop .inv) (c .before .before .write-next .ensures) (sym (c .before .is-whole .ensures) ∙ not-true _ (c .if1 .taken))
 
 loop-less : tie.Need-loop-less Inv-loop μ-loop
 loop-less c =
-    let on = goes-on (c .before .before .before .before .before .before .before .before .before .before .before .before .before .before .before .before .before .before .pre) (c .before .before .before .before .before .before .before .before .before .loop .inv) (below (c .before .before .before .before .before .before .before .before)) (c .before .before .before .before .before .put-part .ensures) in
-    omega (arith, c .before .before .before .before .before .before .before .before .before .before .before .before .pieces-of .ensures)
+    let pu = c .before .before .before .before .before in
+    let t = pu .before .before .before in
+    let l = t .before in
+    let pi = l .before .before .before in
+    let s = pi .before .before .before .before .before .before in
+    let on = goes-on (s .pre) (l .loop .inv) (below t) (pu .put-part .ensures) in
+    omega (arith, pi .pieces-of .ensures)
 
 loop-again : tie.Need-loop-again Inv-loop μ-loop
 loop-again c =
-    writing-goes-on (c .before .before .before .before .before .before .before .before .before .before .before .before .before .before .before .before .before .before .pre) (c .before .before .before .before .before .before .before .before .before .loop .inv) (below (c .before .before .before .before .before .before .before .before)) (c .before .before .before .before .before .put-part .ensures) (c .before .before .write-next .ensures)
+    let pu = c .before .before .before .before .before in
+    let t = pu .before .before .before in
+    let l = t .before in
+    let s = l .before .before .before .before .before .before .before .before .before in
+    writing-goes-on (s .pre) (l .loop .inv) (below t) (pu .put-part .ensures) (c .before .before .write-next .ensures)
     (sym (c .before .is-whole .ensures) ∙ not-false _ (c .if1 .left))
 
 returns-2 : tie.Need-returns-2 Inv-loop μ-loop
-returns-2 c = writing-ends (c .before .before .before .before .before .before .before .before .before .before .pre) (c .before .loop .inv) (omega (arith, c .loop-test .left, c .before .before .before .before .pieces-of .ensures))
+returns-2 c =
+    let pi = c .before .before .before .before in
+    let s = pi .before .before .before .before .before .before in
+    writing-ends (s .pre) (c .before .loop .inv) (omega (arith, c .loop-test .left, pi .pieces-of .ensures))
 
 pub write-listing-spec : {M : Type 1} → statement M
 write-listing-spec =

@@ -20,18 +20,24 @@ order-requires : tie.Need-order-requires
 order-requires c κs = (readied (c .before .before .before .before .before .before .before .before .pre .0) (c .before .before .note-net .ensures .noted), refl)
 
 lowest-on-cycle-requires : tie.Need-lowest-on-cycle-requires
-lowest-on-cycle-requires c κs = readied (c .before .before .before .before .before .before .before .before .before .before .before .pre .0) (c .before .before .before .before .before .note-net .ensures .noted)
+lowest-on-cycle-requires c κs =
+    let n = c .before .before .before .before .before in
+    let s = n .before .before .before .before .before .before in
+    readied (s .pre .0) (n .note-net .ensures .noted)
 
 mul-refused : tie.Need-mul-refused
 mul-refused c =
-    let a = c .before .before .before .before .before .before .before .before .before .before .before .before in
-    let (h, f) = cycle-there (a .args .l) (a .pre .0) (c .before .before .before .order .ensures) (c .before .before .if1 .taken) (c .lowest-on-cycle .ensures) in
+    let o = c .before .before .before in
+    let s = o .before .before .before .before .before .before .before .before .before in
+    let (h, f) = cycle-there (s .args .l) (s .pre .0) (o .order .ensures) (c .before .before .if1 .taken) (c .lowest-on-cycle .ensures) in
     omega arith
 
 shared-slice-read-refused : tie.Need-shared-slice-read-refused
 shared-slice-read-refused c =
-    let a = c .before .before .before .before .before .before .before .before .before .before .before .before .before in
-    let (h, f) = cycle-there (a .args .l) (a .pre .0) (c .before .before .before .before .order .ensures) (c .before .before .before .if1 .taken) (c .before .lowest-on-cycle .ensures) in
+    let b = c .before .before .before in
+    let o = b .before in
+    let s = o .before .before .before .before .before .before .before .before .before in
+    let (h, f) = cycle-there (s .args .l) (s .pre .0) (o .order .ensures) (b .if1 .taken) (c .before .lowest-on-cycle .ensures) in
     omega arith
 
 refused-requires : tie.Need-refused-requires
@@ -39,8 +45,10 @@ refused-requires c κs = search needs
 
 returns : tie.Need-returns
 returns c =
-    let a = c .before .before .before .before .before .before .before .before .before .before .before .before .before .before in
-    cycle-refused _ (a .pre .0) (c .before .before .before .before .before .order .ensures) _ (c .before .before .before .before .if1 .taken) (c .before .before .lowest-on-cycle .ensures) (c .refused .ensures)
+    let b = c .before .before .before .before in
+    let o = b .before in
+    let s = o .before .before .before .before .before .before .before .before .before in
+    cycle-refused _ (s .pre .0) (o .order .ensures) _ (b .if1 .taken) (c .before .before .lowest-on-cycle .ensures) (c .refused .ensures)
 
 counted-requires : tie.Need-counted-requires
 counted-requires c κs = walkable (c .before .before .before .before .before .before .before .before .before .before .pre .0 .parts)
@@ -53,8 +61,10 @@ enum-told-2 c = search needs
 
 returns-2 : tie.Need-returns-2
 returns-2 c =
-    let a = c .before .before .before .before .before .before .before .before .before .before .before .before .before in
-    count-refused _ (a .pre .0) (c .before .before .before .before .order .ensures) (c .before .before .before .if1 .left) (a .pre .1) (c .before .before .counted .ensures) _ (c .enum-told2 .given .1)
+    let b = c .before .before .before in
+    let o = b .before in
+    let s = o .before .before .before .before .before .before .before .before .before in
+    count-refused _ (s .pre .0) (o .order .ensures) (b .if1 .left) (s .pre .1) (c .before .before .counted .ensures) _ (c .enum-told2 .given .1)
 
 copy-words-requires : tie.Need-copy-words-requires
 copy-words-requires c κs =
@@ -63,8 +73,12 @@ copy-words-requires c κs =
 
 returns-3 : tie.Need-returns-3
 returns-3 c =
-    let a = c .before .before .before .before .before .before .before .before .before .before .before .before .before .before .before .before in
-    count-accepted _ (a .pre .0) (c .before .before .before .before .before .before .before .order .ensures) (c .before .before .before .before .before .before .if1 .left) (a .pre .1) (c .before .before .before .before .before .counted .ensures) (c .before .before .before .enum-told .given .1) (c .copy-words .ensures)
+    let en = c .before .before .before in
+    let co = en .before .before in
+    let b = co .before in
+    let o = b .before in
+    let s = o .before .before .before .before .before .before .before .before .before in
+    count-accepted _ (s .pre .0) (o .order .ensures) (b .if1 .left) (s .pre .1) (co .counted .ensures) (en .enum-told .given .1) (c .copy-words .ensures)
 
 pub ordered-spec : {M : Type 1} → statement M
 ordered-spec =
