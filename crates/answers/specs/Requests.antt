@@ -6,6 +6,8 @@ use mathlib.Core.List.{List, [], map}
 use mathlib.Core.Path.{_≡_}
 use lib.Dec.{eqb, leb}
 use lib.ListN.{length, getD, take}
+use Rattle.paper.specs.Refusals.{noSuchTransition, uneven}
+use Rattle.paper.specs.Limits.{mostChosen, mostRows, mostTransitions, mostVariables}
 use Rattle.paper.specs.declared.Label.{Label}
 use Rattle.paper.specs.Lists.{those}
 use Rattle.paper.specs.Formula.{has, labels}
@@ -37,14 +39,14 @@ judgeOf words = judgeAnswer (judgedOf words)
 
 -- the bounds of an accepted table's counts
 pub record FitCounts (c : Counts) : Type 0 where
-  pub variables-fit : c .variables ≤ 1024
-  pub rows-fit : c .rows ≤ 4096
-  pub chosen-fit : c .chosen ≤ 4096
-  pub transitions-fit : c .transitions ≤ 65535
+  pub variables-fit : c .variables ≤ mostVariables
+  pub rows-fit : c .rows ≤ mostRows
+  pub chosen-fit : c .chosen ≤ mostChosen
+  pub transitions-fit : c .transitions ≤ mostTransitions
 
 -- the bound of what a request fills: S words, N bytes or V words
 abbrev pub FitFilled : Filled → Type 0
-FitFilled (filled.Done l) = l .count ≤ 4096
+FitFilled (filled.Done l) = l .count ≤ mostRows
 FitFilled (filled.Refused r) = Unit {0}
 
 -- The formula and the proposal of words laid out so, the reported order, and transition k: its key, its kept labels.
@@ -68,7 +70,7 @@ module _ (words : List ℕ) (l : Layout) where
 
 -- 15: number k is not below the count; 18: transition k has not V chosen labels
 abbrev pub unlessAbsent : ℕ → ℕ → ℕ → List Label → Outcome → Outcome
-unlessAbsent k count #V key next = cond (leb count k) (refuses 15 count) (cond (eqb (length key) #V) next (refuses 18 k))
+unlessAbsent k count #V key next = cond (leb count k) (refuses noSuchTransition count) (cond (eqb (length key) #V) next (refuses uneven k))
 
 abbrev pub orderOutcome : List ℕ → ℕ → Layout → ℕ → Outcome
 orderOutcome words room l count = unlessShort room (map (λ i. i .0) (reported words l))
@@ -117,7 +119,7 @@ pub record Ordered (words : List ℕ) (a : Accepted) (order : List ℕ) : Type 0
 pub record Asked (words : List ℕ) (a : Accepted) (k : ℕ) (kept : List ℕ) : Type 0 where
   pub accepted : AcceptedAs words a
   pub there : k < a .transitions
-  pub room : length kept ≡ 4096
+  pub room : length kept ≡ mostRows
 
 -- the bytes of transition k stand in front of what was there, and how many chosen labels it keeps
 pub record Kept (words : List ℕ) (l : Layout) (k : ℕ) (lent left : List ℕ) (chosen : ℕ) : Type 0 where

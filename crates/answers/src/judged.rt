@@ -10,6 +10,11 @@ use filling::refused;
 use keys::keys_of;
 use marks::marks_of;
 use paper::Label;
+use paper::limits::MOST_DEPTH;
+use paper::limits::MOST_ROWS;
+use paper::limits::SLOTS;
+use paper::refusals::NO_SUCH_TRANSITION;
+use paper::refusals::UNEVEN;
 use transitions::assigned::count_kept;
 use transitions::assigned::fill_assigned;
 use transitions::kept::mark_kept;
@@ -25,7 +30,7 @@ fn keep(words: &[u16], a: Accepted, k: usize, kept: &mut [u8]) -> usize
     let chosen = l.chosen_at;
     let n = l.rows;
     let marks = marks_of(&words[chosen..]);
-    let own = keys_of(&words[rows..], &marks, n as u16, Label(0), 64);
+    let own = keys_of(&words[rows..], &marks, n as u16, Label(0), MOST_DEPTH);
     mark_kept(&words[rows..], &marks, n as u16, own, k as u64, kept);
     count_kept(&words[chosen..], &kept[..n])
 }
@@ -40,12 +45,12 @@ pub fn transition_of(words: &[u16], a: Accepted, k: usize, out: &mut [u8]) -> Fi
     let l = a.layout;
     let count = a.transitions;
     if count <= k {
-        return refused(15, count);
+        return refused(NO_SUCH_TRANSITION, count);
     }
-    let mut kept = [0u8; 4096];
+    let mut kept = [0u8; MOST_ROWS];
     let chosen = keep(words, a, k, &mut kept);
     if chosen != l.variables {
-        return refused(18, k);
+        return refused(UNEVEN, k);
     }
     fill_bytes(&kept, l.rows, out)
 }
@@ -64,14 +69,14 @@ pub fn assignments_of(
         ⌜ Fills (assignmentsOutcome (now (words .entry)) k (length (now (out .entry))) (a .layout) (a .transitions))
         (now (out .entry)) (now (out .exit)) r ⌝ }
 {
-    let mut kept = [0u8; 4096];
+    let mut kept = [0u8; MOST_ROWS];
     let marked = transition_of(words, a, k, &mut kept);
     let Filled::Done(_) = marked else {
         return marked;
     };
     let l = a.layout;
     let n = l.rows;
-    let mut labels = [0u16; 2048];
+    let mut labels = [0u16; SLOTS];
     let filled = fill_assigned(order, l.chosen, &kept[..n], &mut labels);
     fill_words(&labels, filled, out)
 }

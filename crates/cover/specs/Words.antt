@@ -5,6 +5,8 @@ use mathlib.Core.Bool.{Bool, true, false, cond, not, _&&_, _||_}
 use mathlib.Core.List.{List, [], _∷_}
 use lib.Dec.{eqb, ltb}
 use lib.Bits.{bitAnd, bitOr}
+use Rattle.paper.specs.Refusals.{variableMissed, variableTwice}
+use Rattle.paper.specs.Limits.{mostDepth}
 use Rattle.paper.specs.declared.Variable.{Variable}
 use Rattle.paper.specs.Formula.{𝓋}
 use Rattle.paper.specs.Judgement.{Judgement, refused}
@@ -64,10 +66,10 @@ bitAt w b = eqb (w / 2 ^ b % 2) 1
 
 -- some branch has no chosen candidate of variable v; some branch has two or more
 unfoldable pub isMissed : List ℕ → List ℕ → ℕ → Bool
-isMissed rows marks v = not (bitAt (wordsAt rows marks (v / 64) 64 0 .always) (v % 64))
+isMissed rows marks v = not (bitAt (wordsAt rows marks (v / 64) mostDepth 0 .always) (v % 64))
 
 unfoldable pub isDoubled : List ℕ → List ℕ → ℕ → Bool
-isDoubled rows marks v = bitAt (wordsAt rows marks (v / 64) 64 0 .twice) (v % 64)
+isDoubled rows marks v = bitAt (wordsAt rows marks (v / 64) mostDepth 0 .twice) (v % 64)
 
 -- the lowest variable that is missed, else the lowest that is doubled
 abbrev pub firstOf : ℕ → ℕ → ℕ → Covering
@@ -88,6 +90,6 @@ coveringBy (v ∷ others) doubled = Missed v
 
 -- the refusal that a covering gives, or else what follows
 abbrev pub judgementOf : Covering → Judgement → Judgement
-judgementOf (Missed v) next = refused 11 (v .0)
-judgementOf (Doubled v) next = refused 12 (v .0)
+judgementOf (Missed v) next = refused variableMissed (v .0)
+judgementOf (Doubled v) next = refused variableTwice (v .0)
 judgementOf Covered next = next

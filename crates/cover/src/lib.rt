@@ -5,9 +5,12 @@ ghost use Prim.Native.Nat.{_+_, _≤_, _<_, min};
 ghost use Rattle.entries.specs.First.{first};
 ghost use Rattle.rows.specs.Walk.{Walkable};
 ghost use Rattle.cover.specs.Words.{unitWords, joinWords, leafWords, maskOf, wordsAt, bitAt, further, coveringOf};
+ghost use Rattle.paper.specs.Limits.{mostRows};
 use marks::is_marked;
 use paper::Label;
 use paper::Variable;
+use paper::limits::MOST_DEPTH;
+use paper::limits::MOST_ROWS;
 use rows::arg_of;
 use rows::end_of;
 use rows::kind_of;
@@ -81,8 +84,8 @@ fn join(conj: bool, a: Words, b: Words) -> Words
 }
 
 // A candidate: the bit of its variable, if it is chosen and its variable is of the block.
-fn leaf_of(marks: &[u8; 4096], block: u16, at: Label, v: Variable) -> Words
-    requires { ⌜ at .0 < 4096 ⌝ }
+fn leaf_of(marks: &[u8; MOST_ROWS], block: u16, at: Label, v: Variable) -> Words
+    requires { ⌜ at .0 < mostRows ⌝ }
     ensures { λ r. ⌜ r ≡ leafWords (maskOf (now (marks .entry)) block (at .0) (v .0)) ⌝ }
 {
     if v.0 / 64 == block {
@@ -105,7 +108,14 @@ fn leaf_of(marks: &[u8; 4096], block: u16, at: Label, v: Variable) -> Words
 }
 
 // The words of the formula at a row, `left` levels deep at most, for the variables of a block.
-fn words_of(rows: &[u16], marks: &[u8; 4096], n: u16, at: Label, left: u16, block: u16) -> Words
+fn words_of(
+    rows: &[u16],
+    marks: &[u8; MOST_ROWS],
+    n: u16,
+    at: Label,
+    left: u16,
+    block: u16,
+) -> Words
     requires { ⌜ Walkable (now rows) n (at .0) ⌝ }
     ensures { λ r. ⌜ r ≡ wordsAt (now (rows .entry)) (now (marks .entry)) block left (at .0) ⌝ }
 {
@@ -175,7 +185,7 @@ fn lower(low: u16, v: u16, found: u16) -> u16
 }
 
 // The lowest variable with no chosen label on some branch, else the lowest with two or more on some branch.
-pub fn covering_of(rows: &[u16], marks: &[u8; 4096], n: u16, variables: u16) -> Covering
+pub fn covering_of(rows: &[u16], marks: &[u8; MOST_ROWS], n: u16, variables: u16) -> Covering
     requires { ⌜ Walkable (now rows) n 0 ⌝ }
     ensures { λ r. ⌜ r ≡ coveringOf (now (rows .entry)) (now (marks .entry)) variables ⌝ }
 {
@@ -183,7 +193,7 @@ pub fn covering_of(rows: &[u16], marks: &[u8; 4096], n: u16, variables: u16) -> 
     let mut v: u16 = 0;
     let mut two: u16 = 0;
     while v < variables {
-        let w = words_of(rows, marks, n, Label(0), 64, block);
+        let w = words_of(rows, marks, n, Label(0), MOST_DEPTH, block);
         let m = lesser(64, variables - v);
         let one = lowest_bit(w.always ^ 18446744073709551615, m);
         if one < m {

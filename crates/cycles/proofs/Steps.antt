@@ -8,10 +8,11 @@ use lib.Dec.{eqb}
 use lib.ListN.{length, getD, set, replicate, length-replicate, getD-replicate}
 use lib.Seq.{getD-set-same}
 use borrow.Author.Tests.{ne-eqb, eqb-false}
+use Rattle.paper.specs.Limits.{slots}
 use Rattle.paper.proofs.Bools.{not-so}
 use Rattle.entries.specs.First.{first}
 use Rattle.entries.proofs.First.{first-found, first-none}
-use Rattle.fingers.specs.Graph.{Graph, Next, free, outside, leftOf, slots, Started}
+use Rattle.fingers.specs.Graph.{Graph, Next, free, outside, leftOf, Started}
 use Rattle.cycles.specs.Path.{ringed, Chain, step, Walked, Best, weight, Grown, Finished, Counted, Merged, Stepped, Explored, Selfless}
 use Rattle.fingers.proofs.Tests.{by-eq, by-lt, never, at-set}
 use Rattle.fingers.proofs.Left.{was-free, left-few}

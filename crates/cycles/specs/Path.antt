@@ -4,9 +4,10 @@ use mathlib.Core.Bool.{Bool, true, false}
 use mathlib.Core.Path.{_≡_}
 use mathlib.Core.List.{List}
 use lib.ListN.{length, getD}
+use Rattle.paper.specs.Limits.{slots}
 use Rattle.paper.specs.Order.{onCycle}
 use Rattle.net.specs.Prior.{upTo}
-use Rattle.fingers.specs.Graph.{Graph, free, leftOf, slots}
+use Rattle.fingers.specs.Graph.{Graph, free, leftOf}
 
 -- i lies on a cycle
 unfoldable pub ringed : Graph → ℕ → Bool

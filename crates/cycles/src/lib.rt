@@ -10,14 +10,17 @@ ghost use Rattle.cycles.specs.Cyclic.{lowestCyclic};
 ghost use Rattle.fingers.specs.Ready.{Ready};
 ghost use Rattle.cycles.specs.Path.{Walked, Best, Finished, Settled, Counted, Merged, Stepped, Explored, Selfless};
 ghost use Rattle.fingers.specs.Places.{readsAny, graphOf};
+ghost use Rattle.paper.specs.Limits.{slots};
 use entries::least;
 use entries::wide;
 use fingers::seek;
 use fingers::start;
 use fingers::stop_of;
+use net::NET_LENGTH;
 use net::guard_of;
 use paper::Label;
 use paper::Variable;
+use paper::limits::SLOTS;
 use rows::arg_of;
 use rows::from_of;
 
@@ -31,8 +34,8 @@ struct Walk {
 }
 
 // Marks the numbers of the path from position `from` on as done.
-fn finish(mark: &mut [u16; 2048], stack: &[u16; 2048], from: usize, len: usize)
-    requires { ⌜ (length (now mark) ≡ 2048) × (len ≤ 2048) × (from ≤ len) × ((p : ℕ) → p < len → getD (now stack) p 0 < 2048) ⌝ }
+fn finish(mark: &mut [u16; SLOTS], stack: &[u16; SLOTS], from: usize, len: usize)
+    requires { ⌜ (length (now mark) ≡ slots) × (len ≤ slots) × (from ≤ len) × ((p : ℕ) → p < len → getD (now stack) p 0 < slots) ⌝ }
     ensures { λ _. ⌜ Finished (now (mark .entry)) (now (stack .entry)) from len (now (mark .exit)) ⌝ }
 {
     let mut p = from;
@@ -44,8 +47,8 @@ fn finish(mark: &mut [u16; 2048], stack: &[u16; 2048], from: usize, len: usize)
 }
 
 // The least of `best` and the numbers of the path from position `from` on.
-fn settle(stack: &[u16; 2048], from: usize, len: usize, best: usize) -> usize
-    requires { ⌜ (len ≤ 2048) × (from ≤ len) ⌝ }
+fn settle(stack: &[u16; SLOTS], from: usize, len: usize, best: usize) -> usize
+    requires { ⌜ (len ≤ slots) × (from ≤ len) ⌝ }
     ensures { λ r. ⌜ Settled (now (stack .entry)) from len best r ⌝ }
 {
     let mut r = best;
@@ -58,8 +61,8 @@ fn settle(stack: &[u16; 2048], from: usize, len: usize, best: usize) -> usize
 }
 
 // The same, if they are two or more: a single number is on a cycle only if it is before itself.
-fn counted(stack: &[u16; 2048], from: usize, len: usize, best: usize) -> usize
-    requires { ⌜ (len ≤ 2048) × (from ≤ len) ⌝ }
+fn counted(stack: &[u16; SLOTS], from: usize, len: usize, best: usize) -> usize
+    requires { ⌜ (len ≤ slots) × (from ≤ len) ⌝ }
     ensures { λ r. ⌜ Counted (now (stack .entry)) from len best r ⌝ }
 {
     if from + 1 < len {
@@ -69,8 +72,8 @@ fn counted(stack: &[u16; 2048], from: usize, len: usize, best: usize) -> usize
 }
 
 // How many segments are left when those that start above position p are joined to the one that holds it.
-fn merged(bound: &[u16; 2048], top: usize, p: usize) -> usize
-    requires { ⌜ (top ≤ 2048) × (0 < top) × (getD (now bound) 0 0 ≡ 0) ⌝ }
+fn merged(bound: &[u16; SLOTS], top: usize, p: usize) -> usize
+    requires { ⌜ (top ≤ slots) × (0 < top) × (getD (now bound) 0 0 ≡ 0) ⌝ }
     ensures { λ r. ⌜ Merged (now (bound .entry)) top p r ⌝ }
 {
     let mut t = top;
@@ -86,12 +89,12 @@ fn step(
     rows: &[u16],
     reads: &[u16],
     chosen: &[u16],
-    net: &[u16; 11264],
+    net: &[u16; NET_LENGTH],
     n: u16,
-    mark: &mut [u16; 2048],
-    stack: &mut [u16; 2048],
-    bound: &mut [u16; 2048],
-    finger: &mut [u64; 2048],
+    mark: &mut [u16; SLOTS],
+    stack: &mut [u16; SLOTS],
+    bound: &mut [u16; SLOTS],
+    finger: &mut [u64; SLOTS],
     mut w: Walk,
 ) -> Walk
     requires { ⌜ Ready (now rows) (now reads) (now chosen) (now net) n × (0 < w .len)
@@ -138,13 +141,13 @@ fn explore(
     rows: &[u16],
     reads: &[u16],
     chosen: &[u16],
-    net: &[u16; 11264],
+    net: &[u16; NET_LENGTH],
     n: u16,
     root: usize,
-    mark: &mut [u16; 2048],
-    stack: &mut [u16; 2048],
-    bound: &mut [u16; 2048],
-    finger: &mut [u64; 2048],
+    mark: &mut [u16; SLOTS],
+    stack: &mut [u16; SLOTS],
+    bound: &mut [u16; SLOTS],
+    finger: &mut [u64; SLOTS],
     best: usize,
 ) -> usize
     requires { ⌜ Ready (now rows) (now reads) (now chosen) (now net) n × (root < length (now chosen))
@@ -191,7 +194,7 @@ fn is_before_itself(
     rows: &[u16],
     reads: &[u16],
     chosen: &[u16],
-    net: &[u16; 11264],
+    net: &[u16; NET_LENGTH],
     n: u16,
     j: usize,
 ) -> bool
@@ -210,7 +213,7 @@ fn is_before_itself(
 }
 
 // The lowest number that is before itself, or how many there are.
-fn first_self(rows: &[u16], reads: &[u16], chosen: &[u16], net: &[u16; 11264], n: u16) -> usize
+fn first_self(rows: &[u16], reads: &[u16], chosen: &[u16], net: &[u16; NET_LENGTH], n: u16) -> usize
     requires { ⌜ Ready (now rows) (now reads) (now chosen) (now net) n ⌝ }
     ensures { λ r. ⌜ Selfless (graphOf (now (rows .entry)) (now (reads .entry)) (now (chosen .entry)) n) r ⌝ }
 {
@@ -229,16 +232,16 @@ pub fn lowest_on_cycle(
     rows: &[u16],
     reads: &[u16],
     chosen: &[u16],
-    net: &[u16; 11264],
+    net: &[u16; NET_LENGTH],
     n: u16,
 ) -> usize
     requires { ⌜ Ready (now rows) (now reads) (now chosen) (now net) n ⌝ }
     ensures { λ r. ⌜ r ≡ lowestCyclic (now (rows .entry)) (now (reads .entry)) (now (chosen .entry)) ⌝ }
 {
-    let mut mark = [0u16; 2048];
-    let mut stack = [0u16; 2048];
-    let mut bound = [0u16; 2048];
-    let mut finger = [0u64; 2048];
+    let mut mark = [0u16; SLOTS];
+    let mut stack = [0u16; SLOTS];
+    let mut bound = [0u16; SLOTS];
+    let mut finger = [0u64; SLOTS];
     start(rows, chosen, n, &mut finger);
     let mut best = first_self(rows, reads, chosen, net, n);
     let mut root = 0;

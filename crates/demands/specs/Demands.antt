@@ -7,6 +7,7 @@ use mathlib.Core.Bool.{cond}
 use mathlib.Core.Logic.{_↔_, _⊎_}
 use mathlib.Core.List.{List, [], map, List·Memᴰ}
 use lib.ListN.{length, getD, take, drop}
+use Rattle.paper.specs.Limits.{mostTransitions}
 use Rattle.paper.specs.declared.Label.{Label}
 use Rattle.paper.specs.Lists.{those}
 use Rattle.paper.specs.Formula.{ℓ, has, Formula, labels}
@@ -70,7 +71,7 @@ pub record Acceptable (words : List ℕ) (t : Table) : Type 0 where
   pub within : Within t
   pub writes : words ≡ written t
   pub strategy : Strategy (length (t .names)) (t .formula) (t .strategy)
-  pub few : length (keys (t .formula) (t .strategy)) ≤ 65535
+  pub few : length (keys (t .formula) (t .strategy)) ≤ mostTransitions
 
 -- V, N, S and the number of distinct keys
 pub record Counts (t : Table) (r : ℕ) : Type 0 where

@@ -6,6 +6,7 @@ use mathlib.Core.List.{List, _++_}
 use mathlib.Core.Path.{_≡_}
 use lib.Dec.{ltb}
 use lib.ListN.{length, take, drop}
+use Rattle.paper.specs.Refusals.{outTooShort}
 use Rattle.entries.specs.Front.{inFront}
 use Rattle.sections.specs.Sections.{refusal}
 use Rattle.filling.specs.declared.Filled.{Filled}
@@ -18,7 +19,7 @@ pub data Outcome : Type 0 where
 
 -- 16: the lent slice is too short
 abbrev pub unlessShort : ℕ → List ℕ → Outcome
-unlessShort room ws = cond (ltb room (length ws)) (refuses 16 (length ws)) (fills ws)
+unlessShort room ws = cond (ltb room (length ws)) (refuses outTooShort (length ws)) (fills ws)
 
 -- the answer, and the lent slice afterwards: a refusal leaves it as it was, and what lies beyond what is filled stays
 abbrev pub filledOf : Outcome → Filled

@@ -3,6 +3,10 @@ ghost use mathlib.Core.Path.{_≡_};
 ghost use Prim.Native.Nat.{_≤_};
 ghost use lib.ListN.{length, take};
 ghost use Rattle.filling.specs.Filling.{refuses, unlessShort, filledOf, copied, Fills};
+ghost use Rattle.paper.specs.Limits.{mostRows, slots};
+use paper::limits::MOST_ROWS;
+use paper::limits::SLOTS;
+use paper::refusals::OUT_TOO_SHORT;
 use sections::Refusal;
 
 // How many words or bytes a request filled.
@@ -28,8 +32,8 @@ pub fn refused(number: u8, place: usize) -> Filled
 }
 
 // Copies the first `count` words.
-pub fn copy_words(from: &[u16; 2048], count: usize, out: &mut [u16])
-    requires { ⌜ (count ≤ length (now from)) × (count ≤ 2048) × (count ≤ length (now out)) ⌝ }
+pub fn copy_words(from: &[u16; SLOTS], count: usize, out: &mut [u16])
+    requires { ⌜ (count ≤ length (now from)) × (count ≤ slots) × (count ≤ length (now out)) ⌝ }
     ensures { λ _. ⌜ now (out .exit) ≡ copied (now (from .entry)) count (now (out .entry)) ⌝ }
 {
     let mut i = 0;
@@ -40,8 +44,8 @@ pub fn copy_words(from: &[u16; 2048], count: usize, out: &mut [u16])
 }
 
 // Copies the first `n` bytes.
-fn copy_bytes(from: &[u8; 4096], n: usize, out: &mut [u8])
-    requires { ⌜ (n ≤ length (now from)) × (n ≤ 4096) × (n ≤ length (now out)) ⌝ }
+fn copy_bytes(from: &[u8; MOST_ROWS], n: usize, out: &mut [u8])
+    requires { ⌜ (n ≤ length (now from)) × (n ≤ mostRows) × (n ≤ length (now out)) ⌝ }
     ensures { λ _. ⌜ now (out .exit) ≡ copied (now (from .entry)) n (now (out .entry)) ⌝ }
 {
     let mut i = 0;
@@ -52,24 +56,24 @@ fn copy_bytes(from: &[u8; 4096], n: usize, out: &mut [u8])
 }
 
 // 16, or the first `count` words at the front of `out`.
-pub fn fill_words(from: &[u16; 2048], count: usize, out: &mut [u16]) -> Filled
-    requires { ⌜ (count ≤ length (now from)) × (count ≤ 2048) ⌝ }
+pub fn fill_words(from: &[u16; SLOTS], count: usize, out: &mut [u16]) -> Filled
+    requires { ⌜ (count ≤ length (now from)) × (count ≤ slots) ⌝ }
     ensures { λ r. ⌜ Fills (unlessShort (length (now (out .entry))) (take count (now (from .entry)))) (now (out .entry)) (now (out .exit)) r ⌝ }
 {
     if out.len() < count {
-        return refused(16, count);
+        return refused(OUT_TOO_SHORT, count);
     }
     copy_words(from, count, out);
     Filled::Done(Length { count })
 }
 
 // 16, or the first `n` bytes at the front of `out`.
-pub fn fill_bytes(from: &[u8; 4096], n: usize, out: &mut [u8]) -> Filled
-    requires { ⌜ (n ≤ length (now from)) × (n ≤ 4096) ⌝ }
+pub fn fill_bytes(from: &[u8; MOST_ROWS], n: usize, out: &mut [u8]) -> Filled
+    requires { ⌜ (n ≤ length (now from)) × (n ≤ mostRows) ⌝ }
     ensures { λ r. ⌜ Fills (unlessShort (length (now (out .entry))) (take n (now (from .entry)))) (now (out .entry)) (now (out .exit)) r ⌝ }
 {
     if out.len() < n {
-        return refused(16, n);
+        return refused(OUT_TOO_SHORT, n);
     }
     copy_bytes(from, n, out);
     Filled::Done(Length { count: n })

@@ -8,11 +8,12 @@ use lib.Dec.{eqb, ltb}
 use lib.ListN.{length, getD, set, length-set}
 use lib.Seq.{getD-set-other}
 use borrow.Author.Tests.{ne-eqb, lt-ltb, le-ltb, ltb-true, not-true, not-false}
+use Rattle.paper.specs.Limits.{slots}
 use Rattle.paper.proofs.Bools.{both, and-left, and-right, not-so}
 use Rattle.rows.specs.Rows.{kindOf, fromOf}
 use Rattle.net.specs.Prior.{isFrozen, variableOf, prior}
 use Rattle.fingers.specs.Ready.{Ready}
-use Rattle.fingers.specs.Graph.{Graph, Next, free, outside, slots, Started}
+use Rattle.fingers.specs.Graph.{Graph, Next, free, outside, Started}
 use Rattle.fingers.specs.Places.{packed, calls, startOf, AtStart, pending, After, PlaceOf, Sought, passedOf, fingerOf, graphOf, Answered}
 use Rattle.fingers.proofs.Tests.{by, by-eq, never, at-set}
 use Rattle.fingers.proofs.Guards.{frozen-is}

@@ -6,6 +6,7 @@ use mathlib.Core.Path.{_≡_}
 use mathlib.Core.List.{List}
 use lib.Dec.{eqb, ltb}
 use lib.ListN.{length, getD}
+use Rattle.paper.specs.Limits.{slots}
 use Rattle.paper.specs.Lists.{those}
 use Rattle.net.specs.Prior.{upTo}
 
@@ -36,10 +37,6 @@ outside mark b i = not (eqb (getD mark i 0) 1) && ltb (getD mark i 0) (b + 2)
 -- the new numbers below n
 unfoldable pub leftOf : ℕ → List ℕ → List ℕ
 leftOf n mark = those (free mark) (upTo n)
-
--- how many words each list of the algorithms has
-abbrev pub slots : ℕ
-slots = 2048
 
 -- every finger is one of its number, and nothing that it has passed is before that number
 pub record Started (g : Graph) (finger : List ℕ) : Type 0 where

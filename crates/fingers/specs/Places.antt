@@ -7,6 +7,7 @@ use mathlib.Core.Path.{_≡_}
 use mathlib.Core.List.{List}
 use lib.Dec.{eqb, ltb, leb}
 use lib.ListN.{length, getD, take, drop}
+use Rattle.paper.specs.Limits.{mostReads, slots}
 use Rattle.paper.specs.Lists.{anyOf}
 use Rattle.rows.specs.Rows.{kindOf, argOf, fromOf}
 use Rattle.net.specs.Prior.{guardOf, around, isFrozen, together, variableOf, prior}
@@ -45,7 +46,7 @@ pub record Looked (rows chosen : List ℕ) (answer : Bool) (j from to : ℕ) (hi
 
 -- What a search for j asks: room for the marks, and a finger of j.
 pub record Seekable (g : Graph) (b j f : ℕ) : Type 0 where
-  pub low : b < 2048
+  pub low : b < slots
   pub here : j < g .size
   pub finger : g .Finger j f
 
@@ -55,7 +56,7 @@ startOf rows chosen j = packed (getD chosen j 0 + 1) (fromOf rows (getD chosen j
 
 -- the fingers of the numbers below m are there, and the words from m on are as they were
 pub record AtStart (rows chosen : List ℕ) (m : ℕ) (old finger : List ℕ) : Type 0 where
-  pub size : length finger ≡ 2048
+  pub size : length finger ≡ slots
   pub starts : (j : ℕ) → j < m → getD finger j 0 ≡ startOf rows chosen j
   pub others : (j : ℕ) → m ≤ j → getD finger j 0 ≡ getD old j 0
 
@@ -63,7 +64,7 @@ pub record AtStart (rows chosen : List ℕ) (m : ℕ) (old finger : List ℕ) : 
 pub record Place (rows chosen : List ℕ) (#N s r k : ℕ) : Type 0 where
   pub star : s < #N
   pub kind : 0 < s → kindOf rows s ≡ 1
-  pub read : 0 < s → r ≤ 8192
+  pub read : 0 < s → r ≤ mostReads
   pub number : k ≤ length chosen
 
 module _ (rows reads chosen : List ℕ) where

@@ -9,13 +9,16 @@ ghost use Rattle.net.specs.Net.{Chosen, Net};
 ghost use Rattle.fingers.specs.Ready.{Ready};
 ghost use Rattle.fingers.specs.Graph.{outside};
 ghost use Rattle.fingers.specs.Places.{stopOf, packed, calls, AtStart, Apart, Looked, Seekable, Place, After, Answered, graphOf};
+ghost use Rattle.paper.specs.Limits.{mostRows, slots};
 use entries::wide;
+use net::NET_LENGTH;
 use net::clear_of;
 use net::first_of;
 use net::guard_of;
 use net::next_of;
 use paper::Label;
 use paper::Variable;
+use paper::limits::SLOTS;
 use rows::arg_of;
 use rows::from_of;
 
@@ -49,7 +52,14 @@ pub fn stop_of(rows: &[u16], star: Label) -> usize
 }
 
 // The place after p, which has a star.
-fn onward(rows: &[u16], reads: &[u16], chosen: &[u16], net: &[u16; 11264], n: u16, p: Spot) -> Spot
+fn onward(
+    rows: &[u16],
+    reads: &[u16],
+    chosen: &[u16],
+    net: &[u16; NET_LENGTH],
+    n: u16,
+    p: Spot,
+) -> Spot
     requires { ⌜ Ready (now rows) (now reads) (now chosen) (now net) n × Place (now rows) (now chosen) n (p .star .0) (p .read) (p .next)
         × (0 < p .star .0) ⌝ }
     ensures { λ q. ⌜ After (now (rows .entry)) (now (reads .entry)) (now (chosen .entry)) n (p .star .0) (p .read) (p .next) (q .star .0)
@@ -82,8 +92,8 @@ fn onward(rows: &[u16], reads: &[u16], chosen: &[u16], net: &[u16; 11264], n: u1
 }
 
 // Whether i is new, or on the path below position b.
-fn is_outside(mark: &[u16; 2048], b: usize, i: usize) -> bool
-    requires { ⌜ (i < 2048) × (b < 2048) ⌝ }
+fn is_outside(mark: &[u16; SLOTS], b: usize, i: usize) -> bool
+    requires { ⌜ (i < slots) × (b < slots) ⌝ }
     ensures { λ r. ⌜ r ≡ outside (now (mark .entry)) b i ⌝ }
 {
     if mark[i] == 1 {
@@ -96,7 +106,7 @@ fn is_outside(mark: &[u16; 2048], b: usize, i: usize) -> bool
 fn look_at(
     rows: &[u16],
     chosen: &[u16],
-    net: &[u16; 11264],
+    net: &[u16; NET_LENGTH],
     n: u16,
     k: usize,
     j: usize,
@@ -130,15 +140,15 @@ fn look_at(
 fn look(
     rows: &[u16],
     chosen: &[u16],
-    net: &[u16; 11264],
+    net: &[u16; NET_LENGTH],
     n: u16,
-    mark: &[u16; 2048],
+    mark: &[u16; SLOTS],
     b: usize,
     k: usize,
     j: usize,
     seen: Seen,
 ) -> Seen
-    requires { ⌜ Chosen (now rows) (now chosen) n × Net (now rows) (now chosen) n (now net) × (b < 2048) × (j < length (now chosen))
+    requires { ⌜ Chosen (now rows) (now chosen) n × Net (now rows) (now chosen) n (now net) × (b < slots) × (j < length (now chosen))
         × Apart (now rows) (now chosen) j (seen .from) (seen .to) ⌝ }
     ensures { λ r. ⌜ Looked (now (rows .entry))
         (now (chosen .entry)) (calls (now (rows .entry)) (now (chosen .entry)) (outside (now (mark .entry)) b) k j) j (r .from) (r .to) (r .hit) ⌝ }
@@ -165,7 +175,7 @@ fn pack(p: Spot) -> u64
 }
 
 fn spot_of(f: u64) -> Spot
-    requires { ⌜ f / 4294967296 < 4096 ⌝ }
+    requires { ⌜ f / 4294967296 < mostRows ⌝ }
     ensures { λ p. ⌜ (p .star .0 ≡ f / 4294967296) × (p .read ≡ f / 65536 % 65536) × (p .next ≡ f % 65536) ⌝ }
 {
     let star = (f / 4294967296) as u16;
@@ -182,9 +192,9 @@ pub fn seek(
     rows: &[u16],
     reads: &[u16],
     chosen: &[u16],
-    net: &[u16; 11264],
+    net: &[u16; NET_LENGTH],
     n: u16,
-    mark: &[u16; 2048],
+    mark: &[u16; SLOTS],
     b: usize,
     j: usize,
     finger: u64,
@@ -215,8 +225,8 @@ pub fn seek(
 }
 
 // Puts every finger before all that its number's own star reads; words beyond them stay.
-pub fn start(rows: &[u16], chosen: &[u16], n: u16, finger: &mut [u64; 2048])
-    requires { ⌜ Chosen (now rows) (now chosen) n × (length (now finger) ≡ 2048) ⌝ }
+pub fn start(rows: &[u16], chosen: &[u16], n: u16, finger: &mut [u64; SLOTS])
+    requires { ⌜ Chosen (now rows) (now chosen) n × (length (now finger) ≡ slots) ⌝ }
     ensures { λ _. ⌜ AtStart (now (rows .entry)) (now (chosen .entry)) (length (now (chosen .entry))) (now (finger .entry)) (now (finger .exit)) ⌝ }
 {
     let mut j = 0;

@@ -15,7 +15,8 @@ use Rattle.verdict.specs.Verdict.{refusedAt}
 use Rattle.strategy.specs.Judge.{judgedOf}
 use Rattle.strategy.proofs.Exactly.{accepted-so}
 use Rattle.input.specs.Bytes.{wordsOf, areOdd, judgedBytes}
-use Rattle.input.specs.Length.{mostWords, SoundShort, AreRefused, LongRefused, RestNeverNeeded}
+use Rattle.input.specs.Length.{SoundShort, AreRefused, LongRefused, RestNeverNeeded}
+use Rattle.paper.specs.Limits.{mostWords}
 use Rattle.input.proofs.BytePairs.{words-length}
 
 pub sound-short : SoundShort

@@ -6,6 +6,7 @@ use mathlib.Core.List.{List, [], _∷_}
 use mathlib.Core.Path.{_≡_}
 use lib.Dec.{eqb}
 use lib.ListN.{length}
+use Rattle.paper.specs.Refusals.{oddBytes}
 use Rattle.entries.specs.Front.{inFront}
 use Rattle.verdict.specs.declared.Judged.{Judged}
 use Rattle.verdict.specs.Verdict.{refusedAt}
@@ -28,7 +29,7 @@ areOdd bytes = eqb (length bytes % 2) 1
 
 -- the judgement: 17 first, on the bytes, and then that of their words ("Refusal numbers, in the order of checks")
 unfoldable pub judgedBytes : List ℕ → Judged
-judgedBytes bytes = cond (areOdd bytes) (refusedAt 17 (length bytes / 2)) (judgedOf (wordsOf bytes))
+judgedBytes bytes = cond (areOdd bytes) (refusedAt oddBytes (length bytes / 2)) (judgedOf (wordsOf bytes))
 
 -- what is left in words lent for the reported order
 unfoldable pub orderLeftOf : List ℕ → List ℕ → List ℕ

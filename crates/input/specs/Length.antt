@@ -4,20 +4,13 @@ use Prim.Native.Nat.{ℕ, _*_, _<_, _≤_}
 use mathlib.Core.List.{List, _++_}
 use mathlib.Core.Path.{_≡_}
 use lib.ListN.{length}
+use Rattle.paper.specs.Limits.{mostBytes, mostWords}
 use Rattle.sections.specs.declared.Refusal.{Refusal}
 use Rattle.table.specs.declared.Layout.{Layout}
 use Rattle.table.specs.declared.Checked.the-variants.{Sound}
 use Rattle.table.specs.Table.{checked}
 use Rattle.verdict.specs.declared.Judged.the-variants as judged
 use Rattle.input.specs.Bytes.{judgedBytes}
-
--- the most words of a table
-abbrev pub mostWords : ℕ
-mostWords = 29700
-
--- the most bytes that are read
-abbrev pub mostBytes : ℕ
-mostBytes = 65536
 
 -- sound words are no more
 abbrev pub SoundShort : Type 0

@@ -5,8 +5,10 @@ ghost use Prim.Native.Nat.{_≤_, _<_, min};
 ghost use Rattle.rows.specs.Walk.{Walkable};
 ghost use Rattle.marks.specs.Marks.{isMarked};
 ghost use Rattle.keys.specs.Keys.{limit, total, leafKeys, joinKeys, keysAt};
+ghost use Rattle.paper.specs.Limits.{mostRows};
 use marks::is_marked;
 use paper::Label;
+use paper::limits::MOST_ROWS;
 use rows::end_of;
 use rows::kind_of;
 use rows::walk::expressions_of;
@@ -37,8 +39,8 @@ fn capped(x: u64) -> u32
 }
 
 // A leaf's one key: not empty if the leaf is chosen.
-fn leaf_keys(marks: &[u8; 4096], at: Label) -> Distinct
-    requires { ⌜ at .0 < 4096 ⌝ }
+fn leaf_keys(marks: &[u8; MOST_ROWS], at: Label) -> Distinct
+    requires { ⌜ at .0 < mostRows ⌝ }
     ensures { λ r. ⌜ r ≡ leafKeys (isMarked (now (marks .entry)) (at .0)) ⌝ }
 {
     if is_marked(marks, at) {
@@ -87,7 +89,7 @@ fn join(conj: bool, a: Distinct, b: Distinct) -> Distinct
 }
 
 // The keys of the formula at a row, `left` levels deep at most.
-pub fn keys_of(rows: &[u16], marks: &[u8; 4096], n: u16, at: Label, left: u16) -> Distinct
+pub fn keys_of(rows: &[u16], marks: &[u8; MOST_ROWS], n: u16, at: Label, left: u16) -> Distinct
     requires { ⌜ Walkable (now rows) n (at .0) ⌝ }
     ensures { λ r. ⌜ (r ≡ keysAt (now (rows .entry)) (now (marks .entry)) left (at .0)) × (r .more ≤ limit) ⌝ }
 {

@@ -6,6 +6,7 @@ use mathlib.Core.List.{List, []}
 use mathlib.Core.Path.{_≡_}
 use lib.Dec.{ltb}
 use lib.ListN.{length, take, drop}
+use Rattle.paper.specs.Limits.{mostBytes, mostDepth, mostRows, mostTransitions, mostVariables, slots}
 use Rattle.table.specs.declared.Layout.{Layout}
 use Rattle.table.specs.Table.{rowsIn}
 use Rattle.keys.specs.declared.Distinct.{Distinct}
@@ -16,7 +17,6 @@ use Rattle.verdict.specs.declared.Judged.{Judged}
 use Rattle.verdict.specs.declared.Judged.the-variants as judged
 use Rattle.strategy.specs.Judge.{proposalIn}
 use Rattle.input.specs.Bytes.{wordsOf, judgedBytes}
-use Rattle.input.specs.Length.{mostBytes}
 use Rattle.answers.specs.Requests.{AcceptedAs, Ordered}
 use Rattle.listing.specs.Placed.{Put}
 use Rattle.lister.specs.declared.Ran.{Ran}
@@ -34,19 +34,19 @@ pub record ReadSo (read : Read) : Type 0 where
 
 -- counts that fit, an order of so many labels, and room for two lines
 pub record Headed (a : Accepted) (order text : List ℕ) : Type 0 where
-  pub variables-fit : a .layout .variables ≤ 1024
-  pub rows-fit : a .layout .rows ≤ 4096
-  pub chosen-fit : a .layout .chosen ≤ 2048
-  pub transitions-fit : a .transitions ≤ 65535
+  pub variables-fit : a .layout .variables ≤ mostVariables
+  pub rows-fit : a .layout .rows ≤ mostRows
+  pub chosen-fit : a .layout .chosen ≤ slots
+  pub transitions-fit : a .transitions ≤ mostTransitions
   pub order-there : a .layout .chosen ≤ length order
-  pub room : length text ≡ 65536
+  pub room : length text ≡ mostBytes
 
 -- accepted words, with what the line of every transition is worked out from: the marks of the chosen labels, the keys of the
 -- formula and the reported order
 pub record Listable (words : List ℕ) (a : Accepted) (marks : List ℕ) (own : Distinct) (order : List ℕ) : Type 0 where
   pub ordered : Ordered words a order
   pub marked : Marked (proposalIn words (a .layout)) marks
-  pub own-are : own ≡ keysAt (rowsIn words (a .layout)) marks 64 0
+  pub own-are : own ≡ keysAt (rowsIn words (a .layout)) marks mostDepth 0
 
 -- of accepted words it is so
 abbrev pub AcceptedIf : List ℕ → Judged → Type 0

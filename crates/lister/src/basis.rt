@@ -4,11 +4,13 @@ use keys::Distinct;
 use keys::keys_of;
 use marks::marks_of;
 use paper::Label;
+use paper::limits::MOST_DEPTH;
+use paper::limits::MOST_ROWS;
 use verdict::Judged;
 
 // The marks of the chosen labels, and the keys of the formula.
 pub struct Basis {
-    pub marks: [u8; 4096],
+    pub marks: [u8; MOST_ROWS],
     pub own: Distinct,
 }
 
@@ -23,11 +25,11 @@ pub fn basis_of(words: &[u16], judged: Judged) -> Basis
             let rows = l.rows_at;
             let chosen = l.chosen_at;
             let marks = marks_of(&words[chosen..]);
-            let own = keys_of(&words[rows..], &marks, l.rows as u16, Label(0), 64);
+            let own = keys_of(&words[rows..], &marks, l.rows as u16, Label(0), MOST_DEPTH);
             Basis { marks, own }
         }
         Judged::Refused(_) => Basis {
-            marks: [0; 4096],
+            marks: [0; MOST_ROWS],
             own: Distinct {
                 more: 0,
                 empty: true,

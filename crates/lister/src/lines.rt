@@ -9,6 +9,8 @@ use keys::Distinct;
 use listing::put_accepted;
 use listing::put_order;
 use listing::put_transition;
+use paper::limits::MOST_ROWS;
+use paper::limits::SLOTS;
 use transitions::assigned::fill_assigned;
 use transitions::kept::mark_kept;
 use verdict::Accepted;
@@ -34,7 +36,7 @@ pub fn put_head(a: Accepted, order: &[u16], text: &mut [u8]) -> usize
 fn put_line(
     words: &[u16],
     a: Accepted,
-    marks: &[u8; 4096],
+    marks: &[u8; MOST_ROWS],
     own: Distinct,
     order: &[u16],
     k: usize,
@@ -47,9 +49,9 @@ fn put_line(
     let l = a.layout;
     let rows = l.rows_at;
     let n = l.rows;
-    let mut kept = [0u8; 4096];
+    let mut kept = [0u8; MOST_ROWS];
     mark_kept(&words[rows..], marks, n as u16, own, k as u64, &mut kept);
-    let mut labels = [0u16; 2048];
+    let mut labels = [0u16; SLOTS];
     let filled = fill_assigned(order, l.chosen, &kept[..n], &mut labels);
     put_transition(text, at, k, &labels[..filled], &kept[..n])
 }
@@ -58,7 +60,7 @@ fn put_line(
 pub fn put_lines(
     words: &[u16],
     a: Accepted,
-    marks: &[u8; 4096],
+    marks: &[u8; MOST_ROWS],
     own: Distinct,
     order: &[u16],
     k: usize,

@@ -9,12 +9,13 @@ mod writing; // the parts of a listing, written out one after another
 ghost use mathlib.Core.Path.{_≡_};
 ghost use Prim.Native.Nat.{_≤_};
 ghost use lib.ListN.{length};
-ghost use Rattle.input.specs.Length.{mostBytes};
 ghost use Rattle.lister.specs.Listing.{listingOf};
 ghost use Rattle.lister.specs.Steps.{Reached, RanSo};
+ghost use Rattle.paper.specs.Limits.{mostBytes};
 use input::judging::judge_bytes;
 use input::words::fill_words;
 use output::Written;
+use paper::limits::SLOTS;
 use reading::Read;
 use reading::read_input;
 use writing::write_listing;
@@ -32,7 +33,7 @@ fn list(bytes: &[u8]) -> Written
 {
     let mut words = [0u16; 32768];
     let count = fill_words(bytes, &mut words);
-    let mut order = [0u16; 2048];
+    let mut order = [0u16; SLOTS];
     let judged = judge_bytes(bytes, &words[..count], &mut order);
     write_listing(bytes, &words[..count], judged, &order)
 }

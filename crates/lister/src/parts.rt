@@ -5,10 +5,12 @@ ghost use Prim.Native.Nat.{_<_, _≤_};
 ghost use lib.ListN.{length};
 ghost use Rattle.lister.specs.Listing.{pieces};
 ghost use Rattle.lister.specs.Steps.{Listable, ListableIf, PartPut};
+ghost use Rattle.paper.specs.Limits.{mostBytes};
 use crate::lines::put_head;
 use crate::lines::put_lines;
 use keys::Distinct;
 use listing::put_refused;
+use paper::limits::MOST_ROWS;
 use verdict::Accepted;
 use verdict::Judged;
 
@@ -33,13 +35,13 @@ pub fn pieces_of(judged: Judged) -> usize
 fn put_accepted_part(
     words: &[u16],
     a: Accepted,
-    marks: &[u8; 4096],
+    marks: &[u8; MOST_ROWS],
     own: Distinct,
     order: &[u16],
     next: usize,
     text: &mut [u8],
 ) -> Part
-    requires { ⌜ Listable (now words) a (now marks) own (now order) × (next < pieces (Judged.Accepted a)) × (length (now text) ≡ 65536) ⌝ }
+    requires { ⌜ Listable (now words) a (now marks) own (now order) × (next < pieces (Judged.Accepted a)) × (length (now text) ≡ mostBytes) ⌝ }
     ensures { λ r. ⌜ PartPut (now (words .entry)) (Judged.Accepted a) next (now (text .entry)) (now (text .exit)) r ⌝ }
 {
     if next == 0 {
@@ -57,13 +59,13 @@ fn put_accepted_part(
 pub fn put_part(
     words: &[u16],
     judged: Judged,
-    marks: &[u8; 4096],
+    marks: &[u8; MOST_ROWS],
     own: Distinct,
     order: &[u16],
     next: usize,
     text: &mut [u8],
 ) -> Part
-    requires { ⌜ ListableIf (now words) judged (now marks) own (now order) × (next < pieces judged) × (length (now text) ≡ 65536) ⌝ }
+    requires { ⌜ ListableIf (now words) judged (now marks) own (now order) × (next < pieces judged) × (length (now text) ≡ mostBytes) ⌝ }
     ensures { λ r. ⌜ PartPut (now (words .entry)) judged next (now (text .entry)) (now (text .exit)) r ⌝ }
 {
     match judged {

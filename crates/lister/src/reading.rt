@@ -2,8 +2,8 @@
 // contract can say what a reading call puts into the buffer.
 ghost use mathlib.Core.Path.{_≡_};
 ghost use lib.ListN.{length};
-ghost use Rattle.input.specs.Length.{mostBytes};
 ghost use Rattle.lister.specs.Steps.{ReadSo};
+ghost use Rattle.paper.specs.Limits.{mostBytes};
 use libc::STDIN_FILENO;
 
 // How many bytes were read, and whether a reading call gave no more of them.

@@ -5,6 +5,7 @@ use mathlib.Core.Path.{_≡_}
 use mathlib.Core.List.{List, [], _∷_}
 use lib.Dec.{eqb}
 use lib.ListN.{length, getD}
+use Rattle.paper.specs.Limits.{mostRows}
 use Rattle.paper.specs.declared.Label.{Label}
 use Rattle.paper.specs.Formula.{ℓ, has}
 
@@ -22,8 +23,8 @@ positions bs = positionsFrom 0 bs
 
 -- the marks are those of the chosen labels
 pub record Marked (A : List Label) (marks : List ℕ) : Type 0 where
-  pub size : length marks ≡ 4096
-  pub marks-are : (l : ℕ) → l < 4096 → isMarked marks l ≡ has A (ℓ l)
+  pub size : length marks ≡ mostRows
+  pub marks-are : (l : ℕ) → l < mostRows → isMarked marks l ≡ has A (ℓ l)
 
 -- each word of a list is below a limit
 abbrev pub AllBelow : ℕ → List ℕ → Type 0

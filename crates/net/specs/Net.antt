@@ -9,6 +9,7 @@ use mathlib.Core.Path.{_≡_}
 use mathlib.Core.List.{List}
 use lib.Dec.{eqb, ltb}
 use lib.ListN.{length, getD}
+use Rattle.paper.specs.Limits.{mostCandidates, mostVariables}
 use Rattle.entries.specs.First.{first}
 use Rattle.rows.specs.Rows.{kindOf, argOf, endOf, Nested}
 use Rattle.net.specs.Prior.{isUnder, parentOf, guardOf, overBoth, together}
@@ -39,11 +40,11 @@ pub record Tree (rows : List ℕ) (#N : ℕ) : Type 0 where
 -- variable below 1,024.
 pub record Chosen (rows chosen : List ℕ) (#N : ℕ) : Type 0 where
   pub tree : Tree rows #N
-  pub few : length chosen ≤ 2047
+  pub few : length chosen ≤ mostCandidates
   pub below : (k : ℕ) → k < length chosen → getD chosen k 0 + 1 < #N
   pub ascend : (j k : ℕ) → j < k → k < length chosen → getD chosen j 0 < getD chosen k 0
   pub candidates : (k : ℕ) → k < length chosen → kindOf rows (getD chosen k 0) ≡ 2
-  pub variables : (k : ℕ) → k < length chosen → argOf rows (getD chosen k 0) < 1024
+  pub variables : (k : ℕ) → k < length chosen → argOf rows (getD chosen k 0) < mostVariables
 
 -- the part of the net that has the row over each row, and the part that has each row's innermost guard
 pub record Parents (rows : List ℕ) (#N : ℕ) (net : List ℕ) : Type 0 where
@@ -62,7 +63,7 @@ module _ (rows chosen : List ℕ) where
     pub parents : Parents rows #N net
     pub guards : Guards rows #N net
     pub nexts : (k : ℕ) → k < length chosen → getD net (nextsFrom + k) 0 ≡ firstWith (argOf rows (getD chosen k 0)) (k + 1)
-    pub firsts : (v : ℕ) → v < 1024 → getD net (firstsFrom + v) 0 ≡ firstWith v 0
+    pub firsts : (v : ℕ) → v < mostVariables → getD net (firstsFrom + v) 0 ≡ firstWith v 0
 
 -- the words of each part that a net of so many rows and chosen labels gives; those of the variables it gives all
 abbrev pub ParentWord : ℕ → ℕ → Type 0

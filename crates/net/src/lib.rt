@@ -7,16 +7,27 @@ ghost use Rattle.rows.specs.Rows.{kindOf};
 ghost use Rattle.net.specs.Prior.{isUnder, parentOf, guardOf};
 ghost use Rattle.net.specs.Net.{Tree, Chosen, Parents, Guards, Net, Noted, Cleared, Only};
 ghost use Rattle.net.specs.Net.{ParentWord, GuardWord, ChainWord, guardsFrom, nextsFrom, firstsFrom, netLength};
+ghost use Rattle.paper.specs.Limits.{mostRows, mostVariables, slots};
 use entries::wide;
 use paper::Label;
 use paper::Variable;
+use paper::limits::MOST_VARIABLES;
 use rows::arg_of;
 use rows::end_of;
 use rows::kind_of;
 
+// Where the parts of a net begin, as specs/Net.antt has them, and how many words it has.
+const GUARDS_FROM: usize = 4096;
+
+const NEXTS_FROM: usize = 8192;
+
+const FIRSTS_FROM: usize = 10240;
+
+pub const NET_LENGTH: usize = 11264;
+
 // The row over a row.
-fn parent_of(net: &[u16; 11264], at: Label) -> Label
-    requires { ⌜ at .0 < 4096 ⌝ }
+fn parent_of(net: &[u16; NET_LENGTH], at: Label) -> Label
+    requires { ⌜ at .0 < mostRows ⌝ }
     ensures { λ r. ⌜ r ≡ ℓ (getD (now (net .entry)) (at .0) 0) ⌝ }
 {
     let i = at.0 as usize;
@@ -24,29 +35,29 @@ fn parent_of(net: &[u16; 11264], at: Label) -> Label
 }
 
 // The star of the innermost guard around a row, or label 0 for none.
-pub fn guard_of(net: &[u16; 11264], at: Label) -> Label
-    requires { ⌜ at .0 < 4096 ⌝ }
+pub fn guard_of(net: &[u16; NET_LENGTH], at: Label) -> Label
+    requires { ⌜ at .0 < mostRows ⌝ }
     ensures { λ r. ⌜ r ≡ ℓ (getD (now (net .entry)) (guardsFrom + at .0) 0) ⌝ }
 {
     let i = at.0 as usize;
-    Label(net[4096 + i])
+    Label(net[GUARDS_FROM + i])
 }
 
 // The number of the next chosen label with the variable of the k-th.
-pub fn next_of(net: &[u16; 11264], k: usize) -> usize
-    requires { ⌜ k < 2048 ⌝ }
+pub fn next_of(net: &[u16; NET_LENGTH], k: usize) -> usize
+    requires { ⌜ k < slots ⌝ }
     ensures { λ r. ⌜ r ≡ getD (now (net .entry)) (nextsFrom + k) 0 ⌝ }
 {
-    wide(net[8192 + k])
+    wide(net[NEXTS_FROM + k])
 }
 
 // The number of the first chosen label of a variable.
-pub fn first_of(net: &[u16; 11264], v: Variable) -> usize
-    requires { ⌜ v .0 < 1024 ⌝ }
+pub fn first_of(net: &[u16; NET_LENGTH], v: Variable) -> usize
+    requires { ⌜ v .0 < mostVariables ⌝ }
     ensures { λ r. ⌜ r ≡ getD (now (net .entry)) (firstsFrom + v .0) 0 ⌝ }
 {
     let i = v.0 as usize;
-    wide(net[10240 + i])
+    wide(net[FIRSTS_FROM + i])
 }
 
 // Whether row `at` lies in the subtree of row `top`.
@@ -62,7 +73,7 @@ fn is_over(rows: &[u16], top: Label, at: Label) -> bool
 
 // The row over a row that is not the first, from the rows over those before it: from the row before it up, the first whose
 // subtree holds it.
-fn climbed(rows: &[u16], net: &[u16; 11264], n: u16, at: Label) -> Label
+fn climbed(rows: &[u16], net: &[u16; NET_LENGTH], n: u16, at: Label) -> Label
     requires { ⌜ Tree (now rows) n × (0 < at .0) × (at .0 < n) × ((i : ℕ) → 0 < i → i < at .0 → getD (now net) i 0 ≡ parentOf (now rows) i) ⌝ }
     ensures { λ r. ⌜ r ≡ ℓ (parentOf (now (rows .entry)) (at .0)) ⌝ }
 {
@@ -74,7 +85,7 @@ fn climbed(rows: &[u16], net: &[u16; 11264], n: u16, at: Label) -> Label
 }
 
 // Notes the row over each row.
-fn note_parents(rows: &[u16], n: u16, net: &mut [u16; 11264])
+fn note_parents(rows: &[u16], n: u16, net: &mut [u16; NET_LENGTH])
     requires { ⌜ Tree (now rows) n × (length (now net) ≡ netLength) ⌝ }
     ensures { λ _. ⌜ Parents (now (rows .entry)) n (now (net .exit)) × Only (ParentWord n) (now (net .entry)) (now (net .exit)) ⌝ }
 {
@@ -87,7 +98,7 @@ fn note_parents(rows: &[u16], n: u16, net: &mut [u16; 11264])
 }
 
 // The star of the innermost guard around a row that is not the first, from those of the rows before it.
-fn guarded_by(rows: &[u16], net: &[u16; 11264], n: u16, at: Label) -> Label
+fn guarded_by(rows: &[u16], net: &[u16; NET_LENGTH], n: u16, at: Label) -> Label
     requires { ⌜ Tree (now rows) n × (0 < at .0) × (at .0 < n) × (getD (now net) (at .0) 0 ≡ parentOf (now rows) (at .0))
         × ((i : ℕ) → i < at .0 → getD (now net) (guardsFrom + i) 0 ≡ guardOf (now rows) i) ⌝ }
     ensures { λ r. ⌜ r ≡ ℓ (guardOf (now (rows .entry)) (at .0)) ⌝ }
@@ -103,36 +114,36 @@ fn guarded_by(rows: &[u16], net: &[u16; 11264], n: u16, at: Label) -> Label
 }
 
 // Notes the star of the innermost guard around each row.
-fn note_guards(rows: &[u16], n: u16, net: &mut [u16; 11264])
+fn note_guards(rows: &[u16], n: u16, net: &mut [u16; NET_LENGTH])
     requires { ⌜ Tree (now rows) n × Parents (now rows) n (now net) ⌝ }
     ensures { λ _. ⌜ Parents (now (rows .entry)) n (now (net .exit)) × Guards (now (rows .entry)) n (now (net .exit))
         × (getD (now (net .exit)) guardsFrom 0 ≡ 0) × Only (GuardWord n) (now (net .entry)) (now (net .exit)) ⌝ }
 {
-    net[4096] = 0;
+    net[GUARDS_FROM] = 0;
     let mut i: u16 = 1;
     while i < n {
         let star = guarded_by(rows, net, n, Label(i));
         let k = i as usize;
-        net[4096 + k] = star.0;
+        net[GUARDS_FROM + k] = star.0;
         i += 1;
     }
 }
 
 // Notes for each variable that it has no chosen label yet: the number of chosen labels.
-fn note_none(none: u16, net: &mut [u16; 11264])
+fn note_none(none: u16, net: &mut [u16; NET_LENGTH])
     requires { ⌜ length (now net) ≡ netLength ⌝ }
     ensures { λ _. ⌜ (length (now (net .exit)) ≡ netLength) × (take firstsFrom (now (net .exit)) ≡ take firstsFrom (now (net .entry)))
-        × ((v : ℕ) → v < 1024 → getD (now (net .exit)) (firstsFrom + v) 0 ≡ none) ⌝ }
+        × ((v : ℕ) → v < mostVariables → getD (now (net .exit)) (firstsFrom + v) 0 ≡ none) ⌝ }
 {
     let mut v = 0;
-    while v < 1024 {
-        net[10240 + v] = none;
+    while v < MOST_VARIABLES {
+        net[FIRSTS_FROM + v] = none;
         v += 1;
     }
 }
 
 // Notes for each chosen label the next one of its variable, and for each variable its first, from the last label down.
-fn note_chains(rows: &[u16], chosen: &[u16], n: u16, net: &mut [u16; 11264])
+fn note_chains(rows: &[u16], chosen: &[u16], n: u16, net: &mut [u16; NET_LENGTH])
     requires { ⌜ Chosen (now rows) (now chosen) n × Parents (now rows) n (now net) × Guards (now rows) n (now net) ⌝ }
     ensures { λ _. ⌜ Net (now (rows .entry)) (now (chosen .entry)) n (now (net .exit))
         × Only (ChainWord (length (now (chosen .entry)))) (now (net .entry)) (now (net .exit)) ⌝ }
@@ -142,13 +153,13 @@ fn note_chains(rows: &[u16], chosen: &[u16], n: u16, net: &mut [u16; 11264])
     while 0 < k {
         k -= 1;
         let v = wide(arg_of(rows, Label(chosen[k])));
-        net[8192 + k] = net[10240 + v];
-        net[10240 + v] = k as u16;
+        net[NEXTS_FROM + k] = net[FIRSTS_FROM + v];
+        net[FIRSTS_FROM + v] = k as u16;
     }
 }
 
 // The net of rows and chosen labels.
-pub fn note_net(rows: &[u16], chosen: &[u16], n: u16, net: &mut [u16; 11264])
+pub fn note_net(rows: &[u16], chosen: &[u16], n: u16, net: &mut [u16; NET_LENGTH])
     requires { ⌜ Chosen (now rows) (now chosen) n × (length (now net) ≡ netLength) ⌝ }
     ensures { λ _. ⌜ Noted (now (rows .entry)) (now (chosen .entry)) n (now (net .entry)) (now (net .exit)) ⌝ }
 {
@@ -159,7 +170,7 @@ pub fn note_net(rows: &[u16], chosen: &[u16], n: u16, net: &mut [u16; 11264])
 
 // Whether candidates i and j share a branch, and what that tells of the labels after i: i itself where they do, else a label
 // above it below which none from i on shares a branch with j.
-pub fn clear_of(rows: &[u16], net: &[u16; 11264], n: u16, i: Label, j: Label) -> Label
+pub fn clear_of(rows: &[u16], net: &[u16; NET_LENGTH], n: u16, i: Label, j: Label) -> Label
     requires { ⌜ Tree (now rows) n × Parents (now rows) n (now net) × (i .0 < n) × (j .0 < n)
         × (kindOf (now rows) (i .0) ≡ 2) × (kindOf (now rows) (j .0) ≡ 2) ⌝ }
     ensures { λ r. ⌜ Cleared (now (rows .entry)) (i .0) (j .0) (r .0) ⌝ }

@@ -9,6 +9,7 @@ use answers::judged::assignments_of;
 use answers::judged::transition_of;
 use filling::Filled;
 use filling::fill_words;
+use paper::limits::SLOTS;
 use strategy::judge_into;
 use verdict::Judged;
 
@@ -35,7 +36,7 @@ pub fn judge(words: &[u16]) -> Answer
 pub fn order(words: &[u16], out: &mut [u16]) -> Filled
     ensures { λ r. ⌜ Fills (orderOf (now (words .entry)) (length (now (out .entry)))) (now (out .entry)) (now (out .exit)) r ⌝ }
 {
-    let mut reported = [0u16; 2048];
+    let mut reported = [0u16; SLOTS];
     let judged = judge_into(words, &mut reported);
     match judged {
         Judged::Accepted(a) => {
@@ -61,7 +62,7 @@ pub fn transition(words: &[u16], k: usize, out: &mut [u8]) -> Filled
 pub fn assignments(words: &[u16], k: usize, out: &mut [u16]) -> Filled
     ensures { λ r. ⌜ Fills (assignmentsOf (now (words .entry)) k (length (now (out .entry)))) (now (out .entry)) (now (out .exit)) r ⌝ }
 {
-    let mut reported = [0u16; 2048];
+    let mut reported = [0u16; SLOTS];
     let judged = judge_into(words, &mut reported);
     match judged {
         Judged::Accepted(a) => assignments_of(words, a, &reported, k, out),

@@ -5,9 +5,10 @@ use mathlib.Core.Path.{_≡_}
 use mathlib.Core.List.{List, _++_}
 use lib.Dec.{eqb}
 use lib.ListN.{length, getD, take, drop}
+use Rattle.paper.specs.Limits.{slots}
 use Rattle.paper.specs.Order.{greedyBy}
 use Rattle.net.specs.Prior.{upTo}
-use Rattle.fingers.specs.Graph.{Graph, free, leftOf, slots}
+use Rattle.fingers.specs.Graph.{Graph, free, leftOf}
 use Rattle.ordering.specs.Reported.{labelled}
 
 -- j waits for f, which is not placed, and low says so

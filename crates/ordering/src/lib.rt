@@ -11,14 +11,20 @@ ghost use Rattle.fingers.specs.Ready.{Ready};
 ghost use Rattle.fingers.specs.Graph.{free};
 ghost use Rattle.ordering.specs.Placing.{State, Lowered, Visited, Lowest};
 ghost use Rattle.fingers.specs.Places.{graphOf};
+ghost use Rattle.paper.specs.Limits.{slots};
 use entries::least;
 use entries::wide;
 use fingers::seek;
 use fingers::start;
+use net::NET_LENGTH;
+use paper::limits::SLOTS;
+
+// A number that no chosen label has.
+const NO_NUMBER: u16 = 2048;
 
 // Notes that k waits for f.
-fn lower(low: &mut [u16; 2048], f: usize, k: usize)
-    requires { ⌜ (length (now low) ≡ 2048) × (f < 2048) × (k < 2048) ⌝ }
+fn lower(low: &mut [u16; SLOTS], f: usize, k: usize)
+    requires { ⌜ (length (now low) ≡ slots) × (f < slots) × (k < slots) ⌝ }
     ensures { λ _. ⌜ Lowered (now (low .entry)) f k (now (low .exit)) ⌝ }
 {
     if k < wide(low[f]) {
@@ -27,8 +33,8 @@ fn lower(low: &mut [u16; 2048], f: usize, k: usize)
 }
 
 // Whether w is a number, of so many, that is not placed.
-fn is_waiting(placed: &[u16; 2048], size: usize, w: usize) -> bool
-    requires { ⌜ size < 2048 ⌝ }
+fn is_waiting(placed: &[u16; SLOTS], size: usize, w: usize) -> bool
+    requires { ⌜ size < slots ⌝ }
     ensures { λ r. ⌜ r ≡ (ltb w size && free (now (placed .entry)) w) ⌝ }
 {
     if w < size {
@@ -42,12 +48,12 @@ fn visit(
     rows: &[u16],
     reads: &[u16],
     chosen: &[u16],
-    net: &[u16; 11264],
+    net: &[u16; NET_LENGTH],
     n: u16,
-    placed: &[u16; 2048],
-    finger: &mut [u64; 2048],
-    wait: &mut [u16; 2048],
-    low: &mut [u16; 2048],
+    placed: &[u16; SLOTS],
+    finger: &mut [u64; SLOTS],
+    wait: &mut [u16; SLOTS],
+    low: &mut [u16; SLOTS],
     k: usize,
 ) -> bool
     requires { ⌜ Ready (now rows) (now reads) (now chosen) (now net) n × (k < length (now chosen))
@@ -77,12 +83,12 @@ fn lowest_ready(
     rows: &[u16],
     reads: &[u16],
     chosen: &[u16],
-    net: &[u16; 11264],
+    net: &[u16; NET_LENGTH],
     n: u16,
-    placed: &[u16; 2048],
-    finger: &mut [u64; 2048],
-    wait: &mut [u16; 2048],
-    low: &mut [u16; 2048],
+    placed: &[u16; SLOTS],
+    finger: &mut [u64; SLOTS],
+    wait: &mut [u16; SLOTS],
+    low: &mut [u16; SLOTS],
     from: usize,
 ) -> usize
     requires { ⌜ Ready (now rows) (now reads) (now chosen) (now net) n × (from ≤ length (now chosen))
@@ -105,17 +111,17 @@ pub fn order(
     rows: &[u16],
     reads: &[u16],
     chosen: &[u16],
-    net: &[u16; 11264],
+    net: &[u16; NET_LENGTH],
     n: u16,
-    out: &mut [u16; 2048],
+    out: &mut [u16; SLOTS],
 ) -> usize
-    requires { ⌜ Ready (now rows) (now reads) (now chosen) (now net) n × (length (now out) ≡ 2048) ⌝ }
+    requires { ⌜ Ready (now rows) (now reads) (now chosen) (now net) n × (length (now out) ≡ slots) ⌝ }
     ensures { λ r. ⌜ Filled (now (rows .entry)) (now (reads .entry)) (now (chosen .entry)) (now (out .entry)) (now (out .exit)) r ⌝ }
 {
-    let mut placed = [0u16; 2048];
-    let mut finger = [0u64; 2048];
-    let mut wait = [2048u16; 2048];
-    let mut low = [2048u16; 2048];
+    let mut placed = [0u16; SLOTS];
+    let mut finger = [0u64; SLOTS];
+    let mut wait = [NO_NUMBER; SLOTS];
+    let mut low = [NO_NUMBER; SLOTS];
     start(rows, chosen, n, &mut finger);
     let mut count = 0;
     let mut k = lowest_ready(

@@ -8,6 +8,7 @@ use mathlib.Core.List.{List, [], _∷_, map, List·Memᴰ}
 use lib.Dec.{eqb, ltb}
 use lib.ListN.{length}
 use borrow.Author.Tests.{eqb-false, ltb-false, le-ltb, ne-eqb, not-false}
+use Rattle.paper.specs.Limits.{mostTransitions}
 use Rattle.paper.specs.Lists.{anyOf, those}
 use Rattle.paper.specs.Formula.{Label, Variable, ℓ, has, Formula, labels, isCandidate, Rising}
 use Rattle.paper.specs.Branch.{branches}
@@ -15,7 +16,7 @@ use Rattle.paper.specs.Before.{before}
 use Rattle.paper.specs.Order.{Chain, onCycle}
 use Rattle.paper.specs.Strategy.{chosenOn, Strategy}
 use Rattle.paper.specs.Transition.{keys}
-use Rattle.paper.specs.Judgement.{Judgement, accepted, refused, refuse, variables, strangers, missed, doubled, onCycles, mostTransitions, judge}
+use Rattle.paper.specs.Judgement.{Judgement, accepted, refused, refuse, variables, strangers, missed, doubled, onCycles, judge}
 use Rattle.paper.specs.Statements.{AcceptedExactly, AcceptedOnlySo, Refusal13, OrderExists}
 use Rattle.paper.proofs.Bools.{not-so}
 use Rattle.paper.proofs.Lists.{to-any, of-any, to-none, of-none, sub-those}

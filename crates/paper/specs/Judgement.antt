@@ -5,6 +5,8 @@ use mathlib.Core.Bool.{cond, not}
 use mathlib.Core.List.{List, [], _∷_, _++_, map}
 use lib.Dec.{eqb, ltb}
 use lib.ListN.{length}
+use Rattle.paper.specs.Refusals.{noCandidate, noOrder, tooMany, variableMissed, variableTwice}
+use Rattle.paper.specs.Limits.{mostTransitions}
 use Rattle.paper.specs.Lists.{anyOf, those}
 use Rattle.paper.specs.Formula.{Label, Variable, 𝓋, Formula, labels, isCandidate}
 use Rattle.paper.specs.Branch.{branches}
@@ -44,23 +46,19 @@ doubled #V f A = those (λ v. anyOf (λ b. ltb 1 (chosenOn f A b v)) (branches f
 abbrev pub onCycles : Formula → List Label → List Label
 onCycles f A = those (onCycle (before f A) A) A
 
--- the most transitions
-abbrev pub mostTransitions : ℕ
-mostTransitions = 65535
-
 -- 14, or an acceptance
 abbrev pub judgeCount : ℕ → Formula → List Label → Judgement
 judgeCount #V f A =
-    cond (ltb mostTransitions (length (keys f A))) (refused 14 0) (accepted #V (length (labels f)) (length A) (length (keys f A)))
+    cond (ltb mostTransitions (length (keys f A))) (refused tooMany 0) (accepted #V (length (labels f)) (length A) (length (keys f A)))
 
 -- 13, and what follows it
 abbrev pub judgeOrder : ℕ → Formula → List Label → Judgement
-judgeOrder #V f A = refuse 13 (map (λ l. l .0) (onCycles f A)) (judgeCount #V f A)
+judgeOrder #V f A = refuse noOrder (map (λ l. l .0) (onCycles f A)) (judgeCount #V f A)
 
 -- 10, 11, 12, and what follows them
 abbrev pub judge : ℕ → Formula → List Label → Judgement
 judge #V f A =
-    refuse 10 (map (λ l. l .0) (strangers f A))
-    (refuse 11 (map (λ v. v .0) (missed #V f A))
-    (refuse 12 (map (λ v. v .0) (doubled #V f A))
+    refuse noCandidate (map (λ l. l .0) (strangers f A))
+    (refuse variableMissed (map (λ v. v .0) (missed #V f A))
+    (refuse variableTwice (map (λ v. v .0) (doubled #V f A))
     (judgeOrder #V f A)))

@@ -1,3 +1,5 @@
+pub mod Limits
+pub mod Refusals
 pub mod Lists
 pub mod Outcome
 pub mod Formula

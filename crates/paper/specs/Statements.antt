@@ -7,6 +7,7 @@ use mathlib.Core.Path.{_≡_}
 use mathlib.Core.Logic.{_↔_}
 use mathlib.Core.List.{List, [], _∷_, List·Memᴰ}
 use lib.ListN.{length, getD}
+use Rattle.paper.specs.Limits.{mostTransitions}
 use Rattle.paper.specs.Lists.{anyOf, those}
 use Rattle.paper.specs.Formula.{Label, Variable, ℓ, has, Formula, labels, Rising, WellFormed}
 use Rattle.paper.specs.Branch.{branches}
@@ -72,7 +73,7 @@ module _ (m : Meaning) (xs : List ℕ) (f : Formula) where
 -- 4. The judgement accepts exactly the assignment strategies that cut the formula into at most 65,535 transitions.
 module _ (#V : ℕ) (f : Formula) (A : List Label) where
   abbrev pub AcceptedExactly : Type 0
-  AcceptedExactly = (judge #V f A ≡ accepted #V (length (labels f)) (length A) (length (keys f A))) ↔ (Strategy #V f A × (length (keys f A) ≤ 65535))
+  AcceptedExactly = (judge #V f A ≡ accepted #V (length (labels f)) (length A) (length (keys f A))) ↔ (Strategy #V f A × (length (keys f A) ≤ mostTransitions))
 
   -- there is no other acceptance
   abbrev pub AcceptedOnlySo : Type 0

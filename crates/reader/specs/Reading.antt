@@ -7,6 +7,7 @@ use mathlib.Core.List.{List}
 use lib.Dec.{ltb}
 use lib.ListN.{drop}
 use denote.Ref.{RefT, now}
+use Rattle.paper.specs.Limits.{mostReads, mostRows, mostVariables}
 use Rattle.paper.specs.Formula.{ℓ}
 use Rattle.sections.specs.declared.Cursor.{Cursor}
 use Rattle.sections.specs.declared.Step.{Step}
@@ -22,9 +23,9 @@ use Rattle.reader.specs.declared.Reader.{Reader}
 -- 1 to 1,024 variables, 0 to 8,192 reads and 1 to 4,096 rows of four words: the cursor behind them
 unfoldable pub behindRows : List ℕ → Step
 behindRows words =
-    andThen (openAt words start 1 1024 1)
-    (λ a. andThen (openAt (partAt words a) a 0 8192 1)
-    (λ b. openAt (partAt words b) b 1 4096 4))
+    andThen (openAt words start 1 mostVariables 1)
+    (λ a. andThen (openAt (partAt words a) a 0 mostReads 1)
+    (λ b. openAt (partAt words b) b 1 mostRows 4))
 
 -- the rows, from the first one's kind word on, stand before the cursor behind them
 abbrev pub rowsBefore : List ℕ → Cursor → List ℕ

@@ -6,6 +6,9 @@ use crate::Found;
 use crate::Row;
 use entries::wide;
 use paper::Label;
+use paper::limits::MOST_READS;
+use paper::limits::MOST_ROWS;
+use paper::limits::MOST_VARIABLES;
 use rows::arg_of;
 use rows::end_of;
 use rows::from_of;
@@ -18,17 +21,17 @@ pub fn behind_rows(words: &[u16]) -> Step
     ensures { λ r. ⌜ r ≡ behindRows (now (words .entry)) ⌝ }
 {
     let start = Cursor::new();
-    let first = start.open(words, 1, 1024, 1);
+    let first = start.open(words, 1, MOST_VARIABLES, 1);
     let Step::Next(one) = first else {
         return first;
     };
     let a = one.at;
-    let second = one.open(&words[a..], 0, 8192, 1);
+    let second = one.open(&words[a..], 0, MOST_READS, 1);
     let Step::Next(two) = second else {
         return second;
     };
     let b = two.at;
-    two.open(&words[b..], 1, 4096, 4)
+    two.open(&words[b..], 1, MOST_ROWS, 4)
 }
 
 // The row with this label, where there is one.

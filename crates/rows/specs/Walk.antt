@@ -5,6 +5,7 @@ use mathlib.Core.Bool.{Bool, true}
 use mathlib.Core.List.{List, []}
 use mathlib.Core.Path.{_≡_}
 use lib.ListN.{length}
+use Rattle.paper.specs.Limits.{mostRows}
 use Rattle.paper.specs.Formula.{Formula}
 use Rattle.paper.specs.Structure.Reading.{Reading, readOf}
 use Rattle.rows.specs.Rows.{kindOf, argOf, endOf, Form, aFALSE, aStar, aCandidate, aConjunction, aDisjunction, anExists, anIF, noForm, formOf, meets}
@@ -42,7 +43,7 @@ firstAt rows i = firstUnder (formOf (kindOf rows i)) i
 -- a row step to its end.
 pub record Shaped (rows : List ℕ) (#N : ℕ) : Type 0 where
   pub room : 4 * #N ≤ length rows
-  pub few : #N ≤ 4096
+  pub few : #N ≤ mostRows
   pub known : (i : ℕ) → i < #N → kindOf rows i < 7
   pub rises : (i : ℕ) → i < #N → i < endOf rows i
   pub within : (i : ℕ) → i < #N → endOf rows i ≤ #N

@@ -3,13 +3,14 @@ ghost use mathlib.Core.Path.{_≡_};
 ghost use Prim.Native.Nat.{_+_, _-_, _<_};
 ghost use Rattle.entries.specs.First.{first};
 ghost use Rattle.rows.specs.Rows.{Nested, endOf, depthOf, isDeep};
+ghost use Rattle.paper.specs.Limits.{mostDepth};
 use crate::end_of;
 use paper::Label;
 
 // The lowest label in the subtree of the row `at` that is deeper than 64, or the subtree's end. `left` levels are still
 // allowed, the row's own among them.
 pub fn first_deep(rows: &[u16], n: u16, at: Label, left: u16) -> Label
-    requires { ⌜ Nested (now rows) n × (at .0 < n) × (depthOf (now rows) (at .0) + left ≡ 65) ⌝ }
+    requires { ⌜ Nested (now rows) n × (at .0 < n) × (depthOf (now rows) (at .0) + left ≡ mostDepth + 1) ⌝ }
     ensures { λ r. ⌜ r .0 ≡ at .0 + first (λ k. isDeep (now (rows .entry)) (at .0 + k)) (endOf (now (rows .entry)) (at .0) - at .0) ⌝ }
 {
     if left == 0 {

@@ -7,6 +7,7 @@ ghost use Rattle.paper.specs.Formula.{ℓ};
 ghost use Rattle.entries.specs.First.{first};
 ghost use Rattle.rows.specs.Rows.{kindOf, argOf, endOf, fromOf, formOf, meets, takes, takenBefore, guarded};
 ghost use Rattle.rows.specs.Rows.{falseRule, starRule, candidateRule, joinRule, boundRule, endsWithin, keepsRules, breaksRules, InRows};
+ghost use Rattle.paper.specs.Limits.{mostRows};
 
 pub mod depth; // how deep rows lie: refusal 8
 pub mod walk; // the expressions under a row, for the walks of the layers above
@@ -204,7 +205,7 @@ fn taken_by(rows: &[u16], at: Label) -> usize
 
 // The lowest of n rows that breaks its rules, or n.
 pub fn first_broken(rows: &[u16], reads: &[u16], variables: usize, n: u16) -> Label
-    requires { ⌜ (4 * n ≤ length (now rows)) × (n ≤ 4096) ⌝ }
+    requires { ⌜ (4 * n ≤ length (now rows)) × (n ≤ mostRows) ⌝ }
     ensures { λ r. ⌜ r .0 ≡ first (breaksRules (now (rows .entry)) (now (reads .entry)) variables n) n ⌝ }
 {
     let mut i: u16 = 0;
@@ -221,7 +222,7 @@ pub fn first_broken(rows: &[u16], reads: &[u16], variables: usize, n: u16) -> La
 
 // The number of reads that the stars of n rows take.
 pub fn reads_taken(rows: &[u16], n: u16) -> usize
-    requires { ⌜ (4 * n ≤ length (now rows)) × (n ≤ 4096) ⌝ }
+    requires { ⌜ (4 * n ≤ length (now rows)) × (n ≤ mostRows) ⌝ }
     ensures { λ r. ⌜ r ≡ takenBefore (now (rows .entry)) n ⌝ }
 {
     let mut i: u16 = 0;

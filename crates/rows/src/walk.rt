@@ -4,6 +4,7 @@ ghost use Prim.Native.Nat.{_+_, _*_, _≤_, _<_};
 ghost use lib.ListN.{length};
 ghost use Rattle.paper.specs.Formula.{ℓ};
 ghost use Rattle.rows.specs.Walk.{expressionsAt, firstAt};
+ghost use Rattle.paper.specs.Limits.{mostRows};
 use crate::arg_of;
 use crate::kind_of;
 use paper::Label;
@@ -25,7 +26,7 @@ pub fn expressions_of(rows: &[u16], at: Label) -> u16
 
 // The first expression under a row: the next row, or the one past the guard star.
 pub fn first_of(rows: &[u16], at: Label) -> Label
-    requires { ⌜ (4 * (at .0) + 4 ≤ length (now rows)) × (at .0 < 4096) ⌝ }
+    requires { ⌜ (4 * (at .0) + 4 ≤ length (now rows)) × (at .0 < mostRows) ⌝ }
     ensures { λ r. ⌜ r ≡ ℓ (firstAt (now (rows .entry)) (at .0)) ⌝ }
 {
     let kind = kind_of(rows, at);

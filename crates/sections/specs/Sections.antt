@@ -6,6 +6,8 @@ use mathlib.Core.Bool.{Bool, cond, _||_}
 use mathlib.Core.List.{List}
 use lib.ListN.{length, getD, drop}
 use lib.Dec.{ltb, eqb}
+use Rattle.paper.specs.Refusals.{absent, countOutOfRange, entryUnfit, nameNotAbove, readBeyond, readsLeft, rowBroken, tooDeep, wordsFollow}
+use Rattle.paper.specs.Limits.{mostChosen, mostReads, mostRows, mostVariables}
 use Rattle.sections.specs.declared.Refusal.{Refusal}
 use Rattle.sections.specs.declared.Cursor.{Cursor}
 use Rattle.sections.specs.declared.Step.{Step}
@@ -36,9 +38,9 @@ start = record { at = 0; count = 0; variables = 0; reads = 0; rows = 0 }
 -- words each. The cursor stands at the count word; words present are those before the part and those in it.
 unfoldable pub openAt : List ℕ → Cursor → ℕ → ℕ → ℕ → Step
 openAt part c low high width =
-    cond (eqb (length part) 0) (halt 1 (c .at + length part))
-    (cond (ltb (getD part 0 0) low || ltb high (getD part 0 0)) (halt 2 (c .at))
-    (cond (ltb (length part - 1) (getD part 0 0 * width)) (halt 1 (c .at + length part))
+    cond (eqb (length part) 0) (halt absent (c .at + length part))
+    (cond (ltb (getD part 0 0) low || ltb high (getD part 0 0)) (halt countOutOfRange (c .at))
+    (cond (ltb (length part - 1) (getD part 0 0 * width)) (halt absent (c .at + length part))
     (Next (record {
       at = c .at + 1 + getD part 0 0 * width;
       count = getD part 0 0;
@@ -50,33 +52,33 @@ openAt part c low high width =
 -- Section 1: 1 to 1,024 names, strictly ascending (4, at the position of the word)
 unfoldable pub variablesAt : List ℕ → Cursor → Step
 variablesAt part c =
-    andThen (openAt part c 1 1024 1)
-    (λ d. unless 4 (c .at + 1) (falls (drop 1 part)) (d .count)
+    andThen (openAt part c 1 mostVariables 1)
+    (λ d. unless nameNotAbove (c .at + 1) (falls (drop 1 part)) (d .count)
     (Next (record { at = d .at; count = d .count; variables = d .count; reads = d .reads; rows = d .rows })))
 
 -- Section 2: 0 to 8,192 reads, each below V (5, at the position of the word)
 unfoldable pub readsAt : List ℕ → Cursor → Step
 readsAt part c =
-    andThen (openAt part c 0 8192 1)
-    (λ d. unless 5 (c .at + 1) (beyond (drop 1 part) (c .variables)) (d .count)
+    andThen (openAt part c 0 mostReads 1)
+    (λ d. unless readBeyond (c .at + 1) (beyond (drop 1 part) (c .variables)) (d .count)
     (Next (record { at = d .at; count = d .count; variables = d .variables; reads = d .count; rows = d .rows })))
 
 -- Section 3: 1 to 4,096 rows of four words that keep their rules (6, at the lowest label), take all reads (7, at the reads
 -- taken) and are no deeper than 64 (8, at the lowest label)
 unfoldable pub rowsAt : List ℕ → List ℕ → Cursor → Step
 rowsAt part reads c =
-    andThen (openAt part c 1 4096 4)
-    (λ d. unless 6 0 (breaksRules (drop 1 part) reads (c .variables) (d .count)) (d .count)
-    (cond (ltb (takenBefore (drop 1 part) (d .count)) (c .reads)) (halt 7 (takenBefore (drop 1 part) (d .count)))
-    (unless 8 0 (isDeep (drop 1 part)) (d .count)
+    andThen (openAt part c 1 mostRows 4)
+    (λ d. unless rowBroken 0 (breaksRules (drop 1 part) reads (c .variables) (d .count)) (d .count)
+    (cond (ltb (takenBefore (drop 1 part) (d .count)) (c .reads)) (halt readsLeft (takenBefore (drop 1 part) (d .count)))
+    (unless tooDeep 0 (isDeep (drop 1 part)) (d .count)
     (Next (record { at = d .at; count = d .count; variables = d .variables; reads = d .reads; rows = d .count })))))
 
 -- Section 4: 0 to 4,096 labels below N, strictly ascending (9, at the index in the section)
 unfoldable pub strategyAt : List ℕ → Cursor → Step
 strategyAt part c =
-    andThen (openAt part c 0 4096 1)
-    (λ d. unless 9 0 (λ k. beyond (drop 1 part) (c .rows) k || falls (drop 1 part) k) (d .count) (Next d))
+    andThen (openAt part c 0 mostChosen 1)
+    (λ d. unless entryUnfit 0 (λ k. beyond (drop 1 part) (c .rows) k || falls (drop 1 part) k) (d .count) (Next d))
 
 -- Nothing follows section 4 (3, at the position of the first word after it)
 unfoldable pub endAt : ℕ → Cursor → Step
-endAt present c = cond (ltb (c .at) present) (halt 3 (c .at)) (Next c)
+endAt present c = cond (ltb (c .at) present) (halt wordsFollow (c .at)) (Next c)

@@ -9,6 +9,20 @@ use entries::first_fall;
 use entries::first_unfit;
 use entries::wide;
 use paper::Label;
+use paper::limits::MOST_CHOSEN;
+use paper::limits::MOST_DEPTH;
+use paper::limits::MOST_READS;
+use paper::limits::MOST_ROWS;
+use paper::limits::MOST_VARIABLES;
+use paper::refusals::ABSENT;
+use paper::refusals::COUNT_OUT_OF_RANGE;
+use paper::refusals::ENTRY_UNFIT;
+use paper::refusals::NAME_NOT_ABOVE;
+use paper::refusals::READ_BEYOND;
+use paper::refusals::READS_LEFT;
+use paper::refusals::ROW_BROKEN;
+use paper::refusals::TOO_DEEP;
+use paper::refusals::WORDS_FOLLOW;
 use rows::depth::first_deep;
 use rows::first_broken;
 use rows::reads_taken;
@@ -68,18 +82,18 @@ impl Cursor {
         let at = self.at;
         let present = part.len();
         if present == 0 {
-            return refused(1, at + present);
+            return refused(ABSENT, at + present);
         }
         let count = wide(part[0]);
         if count < low {
-            return refused(2, at);
+            return refused(COUNT_OUT_OF_RANGE, at);
         }
         if high < count {
-            return refused(2, at);
+            return refused(COUNT_OUT_OF_RANGE, at);
         }
         let words = count * width;
         if present - 1 < words {
-            return refused(1, at + present);
+            return refused(ABSENT, at + present);
         }
         Step::Next(Cursor {
             at: at + 1 + words,
@@ -96,14 +110,14 @@ impl Cursor {
         ensures { λ r. ⌜ r ≡ variablesAt (now (part .entry)) self ⌝ }
     {
         let at = self.at;
-        let opened = self.open(part, 1, 1024, 1);
+        let opened = self.open(part, 1, MOST_VARIABLES, 1);
         let Step::Next(next) = opened else {
             return opened;
         };
         let n = next.count;
         let k = first_fall(&part[1..], n);
         if k < n {
-            return refused(4, at + 1 + k);
+            return refused(NAME_NOT_ABOVE, at + 1 + k);
         }
         Step::Next(Cursor {
             at: next.at,
@@ -120,14 +134,14 @@ impl Cursor {
         ensures { λ r. ⌜ r ≡ readsAt (now (part .entry)) self ⌝ }
     {
         let at = self.at;
-        let opened = self.open(part, 0, 8192, 1);
+        let opened = self.open(part, 0, MOST_READS, 1);
         let Step::Next(next) = opened else {
             return opened;
         };
         let n = next.count;
         let k = first_beyond(&part[1..], n, self.variables);
         if k < n {
-            return refused(5, at + 1 + k);
+            return refused(READ_BEYOND, at + 1 + k);
         }
         Step::Next(Cursor {
             at: next.at,
@@ -143,7 +157,7 @@ impl Cursor {
         requires { ⌜ (self .at ≤ 65536) × (length (now reads) ≡ self .reads) ⌝ }
         ensures { λ r. ⌜ r ≡ rowsAt (now (part .entry)) (now (reads .entry)) self ⌝ }
     {
-        let opened = self.open(part, 1, 4096, 4);
+        let opened = self.open(part, 1, MOST_ROWS, 4);
         let Step::Next(next) = opened else {
             return opened;
         };
@@ -151,15 +165,15 @@ impl Cursor {
         let rows = &part[1..];
         let broken = first_broken(rows, reads, self.variables, n);
         if broken.0 < n {
-            return refused(6, wide(broken.0));
+            return refused(ROW_BROKEN, wide(broken.0));
         }
         let taken = reads_taken(rows, n);
         if taken < self.reads {
-            return refused(7, taken);
+            return refused(READS_LEFT, taken);
         }
-        let deep = first_deep(rows, n, Label(0), 64);
+        let deep = first_deep(rows, n, Label(0), MOST_DEPTH);
         if deep.0 < n {
-            return refused(8, wide(deep.0));
+            return refused(TOO_DEEP, wide(deep.0));
         }
         Step::Next(Cursor {
             at: next.at,
@@ -175,14 +189,14 @@ impl Cursor {
         requires { ⌜ self .at ≤ 65536 ⌝ }
         ensures { λ r. ⌜ r ≡ strategyAt (now (part .entry)) self ⌝ }
     {
-        let opened = self.open(part, 0, 4096, 1);
+        let opened = self.open(part, 0, MOST_CHOSEN, 1);
         let Step::Next(next) = opened else {
             return opened;
         };
         let n = next.count;
         let k = first_unfit(&part[1..], n, self.rows);
         if k < n {
-            return refused(9, k);
+            return refused(ENTRY_UNFIT, k);
         }
         opened
     }
@@ -194,7 +208,7 @@ impl Cursor {
     {
         let at = self.at;
         if at < present {
-            return refused(3, at);
+            return refused(WORDS_FOLLOW, at);
         }
         Step::Next(self)
     }

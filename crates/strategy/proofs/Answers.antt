@@ -10,6 +10,7 @@ use lib.Dec.{eqb, ltb}
 use lib.ListN.{length, getD, drop, length-append}
 use lib.Seq.{take-at}
 use borrow.Author.Tests.{eqb-false, ltb-false, not-false}
+use Rattle.paper.specs.Limits.{mostTransitions}
 use Rattle.paper.specs.declared.Label.{Label}
 use Rattle.paper.specs.declared.Variable.{Variable}
 use Rattle.paper.specs.Lists.{anyOf, those}
@@ -18,7 +19,7 @@ use Rattle.paper.specs.Branch.{branches}
 use Rattle.paper.specs.Strategy.{Homogeneous, chosenOn, MinimalCovering}
 use Rattle.paper.specs.Transition.{keys}
 use Rattle.paper.specs.Judgement.{Judgement, accepted, refused, variables, strangers, missed, doubled}
-use Rattle.paper.specs.Judgement.{mostTransitions, judgeCount, judgeOrder, judge}
+use Rattle.paper.specs.Judgement.{judgeCount, judgeOrder, judge}
 use Rattle.paper.proofs.Bools.{not-so}
 use Rattle.paper.proofs.Lists.{to-any, of-none}
 use Rattle.paper.proofs.Labels.{has-mem}

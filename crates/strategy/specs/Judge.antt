@@ -7,6 +7,7 @@ use mathlib.Core.Path.{_≡_}
 use mathlib.Core.Logic.{_↔_}
 use mathlib.Core.List.{List, [], map}
 use lib.ListN.{length, getD}
+use Rattle.paper.specs.Limits.{mostDepth, mostReads, mostRows, mostTransitions, mostVariables}
 use Rattle.paper.specs.declared.Label.{Label}
 use Rattle.paper.specs.Formula.{ℓ, Formula, WellFormed}
 use Rattle.paper.specs.Before.{before}
@@ -72,7 +73,7 @@ pub record AcceptedSo (words : List ℕ) (l : Layout) (t : ℕ) : Type 0 where
   pub sound : checked words ≡ Sound l
   pub strategy : Strategy (l .variables) (formulaIn words l) (proposalIn words l)
   pub count : t ≡ length (keys (formulaIn words l) (proposalIn words l))
-  pub few : length (keys (formulaIn words l) (proposalIn words l)) ≤ 65535
+  pub few : length (keys (formulaIn words l) (proposalIn words l)) ≤ mostTransitions
 
 -- words are accepted exactly if it is so (proofs/Exactly.antt)
 abbrev pub AcceptedExactly : List ℕ → Layout → ℕ → Type 0
@@ -83,19 +84,19 @@ AcceptedExactly words l t = (judgedOf words ≡ acceptedWith l t) ↔ AcceptedSo
 pub record Parts (rows reads chosen : List ℕ) (#V #N : ℕ) : Type 0 where
   pub room : 4 * #N ≤ length rows
   pub some-rows : 1 ≤ #N
-  pub most-rows : #N ≤ 4096
-  pub most-variables : #V ≤ 1024
-  pub most-reads : length reads ≤ 8192
+  pub most-rows : #N ≤ mostRows
+  pub most-variables : #V ≤ mostVariables
+  pub most-reads : length reads ≤ mostReads
   pub keeps : (i : ℕ) → i < #N → keepsRules rows reads #V #N i ≡ true
   pub shallow : first (isDeep rows) #N ≡ #N
-  pub well-formed : WellFormed #V (formulaAt rows reads 64 0)
+  pub well-formed : WellFormed #V (formulaAt rows reads mostDepth 0)
   pub reads-below : (r : ℕ) → r < length reads → getD reads r 0 < #V
   pub below : (k : ℕ) → k < length chosen → getD chosen k 0 < #N
   pub ascends : Ascend chosen
 
 -- the formula of parts
 abbrev pub formulaOf : List ℕ → List ℕ → Formula
-formulaOf rows reads = formulaAt rows reads 64 0
+formulaOf rows reads = formulaAt rows reads mostDepth 0
 
 -- parts that passed 10, 11 and 12
 pub record Covered (rows reads chosen : List ℕ) (#V #N : ℕ) : Type 0 where

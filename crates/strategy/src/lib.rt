@@ -2,6 +2,8 @@
 ghost use mathlib.Core.Path.{_≡_};
 ghost use lib.ListN.{length};
 ghost use Rattle.strategy.specs.Judge.{judgedOf, JudgedInto};
+ghost use Rattle.paper.specs.Limits.{slots};
+use paper::limits::SLOTS;
 use table::Checked;
 use table::check;
 use verdict::Judged;
@@ -10,8 +12,8 @@ mod checks; // 10 to 14, one after another
 
 // The answer to any words, with the reported order of an accepted table in the first S words of `order`; a refusal leaves all of them
 // as they were. The caller says that the array has its length: a loan of one does not tell.
-pub fn judge_into(words: &[u16], order: &mut [u16; 2048]) -> Judged
-    requires { ⌜ length (now order) ≡ 2048 ⌝ }
+pub fn judge_into(words: &[u16], order: &mut [u16; SLOTS]) -> Judged
+    requires { ⌜ length (now order) ≡ slots ⌝ }
     ensures { λ r. ⌜ JudgedInto (now (words .entry)) (now (order .entry)) (now (order .exit)) r ⌝ }
 {
     let found = check(words);
@@ -37,6 +39,6 @@ pub fn judge_into(words: &[u16], order: &mut [u16; 2048]) -> Judged
 pub fn judge(words: &[u16]) -> Judged
     ensures { λ r. ⌜ r ≡ judgedOf (now (words .entry)) ⌝ }
 {
-    let mut order = [0u16; 2048];
+    let mut order = [0u16; SLOTS];
     judge_into(words, &mut order)
 }

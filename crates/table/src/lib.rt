@@ -3,6 +3,7 @@
 ghost use mathlib.Core.Path.{_≡_};
 ghost use Prim.Native.Nat.{_≤_};
 ghost use Rattle.table.specs.Table.{sections, answerOf, checked};
+ghost use Rattle.paper.specs.Limits.{mostReads, mostRows, mostVariables};
 use sections::Cursor;
 use sections::Refusal;
 use sections::Step;
@@ -54,7 +55,7 @@ fn sections(words: &[u16]) -> Step
 
 // What the last cursor found, with the positions that follow from it.
 fn laid_out(c: Cursor) -> Checked
-    requires { ⌜ (c .variables ≤ 1024) × (c .reads ≤ 8192) × (c .rows ≤ 4096) ⌝ }
+    requires { ⌜ (c .variables ≤ mostVariables) × (c .reads ≤ mostReads) × (c .rows ≤ mostRows) ⌝ }
     ensures { λ r. ⌜ r ≡ answerOf (Step.Next c) ⌝ }
 {
     Checked::Sound(Layout {

@@ -6,6 +6,7 @@ use mathlib.Core.List.{List, [], _∷_, _++_, map}
 use mathlib.Core.Path.{_≡_}
 use lib.Dec.{eqb, ltb}
 use lib.ListN.{length, set, drop}
+use Rattle.paper.specs.Limits.{mostDepth, mostRows, mostTransitions}
 use Rattle.paper.specs.declared.Label.{Label}
 use Rattle.paper.specs.Formula.{has}
 use Rattle.paper.specs.Structure.Kept.{keptAt}
@@ -63,9 +64,9 @@ markedBy (l ∷ ls) out = markedBy ls (set out (l .0) 1)
 pub record Keepable (rows marks out : List ℕ) (#N i left : ℕ) (own : Distinct) (k : ℕ) (on : Bool) : Type 0 where
   pub walkable : Walkable rows #N i
   pub room : #N ≤ length out
-  pub size : length marks ≡ 4096
+  pub size : length marks ≡ mostRows
   pub own-are : own ≡ keysAt rows marks left i
-  pub few : on ≡ true → total own ≤ 65535
+  pub few : on ≡ true → total own ≤ mostTransitions
   pub among : on ≡ true → k < total own
 
 -- The bytes afterwards: those of the labels that key k keeps are set, whatever strategy the marks are of and whatever the
@@ -81,4 +82,4 @@ bytesOf p n = map (λ l. cond (p l) 1 0) (labelsOn 0 n)
 -- were.
 pub record MarkedKept (rows marks : List ℕ) (#N k : ℕ) (before after : List ℕ) : Type 0 where
   pub bytes-are : (A : List Label) → Marked A marks → (reads : List ℕ)
-      → after ≡ bytesOf (has (keptAt A (formulaAt rows reads 64 0) k)) #N ++ drop #N before
+      → after ≡ bytesOf (has (keptAt A (formulaAt rows reads mostDepth 0) k)) #N ++ drop #N before

@@ -5,13 +5,17 @@ ghost use mathlib.Core.Bool.{true};
 ghost use mathlib.Core.List.{_++_};
 ghost use Prim.Native.Nat.{_≤_, _<_};
 ghost use lib.ListN.{length, drop, replicate};
+ghost use Rattle.keys.specs.Keys.{limit};
 ghost use Rattle.transitions.specs.Kept.{CanTake, turnOf, sharesOf, toCome, Keepable, KeptAfter, MarkedKept};
+ghost use Rattle.paper.specs.Limits.{mostDepth};
 use crate::Shares;
 use crate::Turn;
 use keys::Distinct;
 use keys::keys_of;
 use keys::total_of;
 use paper::Label;
+use paper::limits::MOST_DEPTH;
+use paper::limits::MOST_ROWS;
 use rows::end_of;
 use rows::kind_of;
 use rows::walk::expressions_of;
@@ -60,7 +64,7 @@ fn turn_of(s: Shares, own: u64) -> Turn
 
 // How the children of a join take part in its key k: `each` for a conjunction, and for an exists, which has one child.
 fn shares_of(each: bool, keys: Distinct, k: u64) -> Shares
-    requires { ⌜ keys .more ≤ 65536 ⌝ }
+    requires { ⌜ keys .more ≤ limit ⌝ }
     ensures { λ r. ⌜ r ≡ sharesOf each keys k ⌝ }
 {
     if each {
@@ -88,7 +92,7 @@ fn to_come(s: Shares, m: u16) -> u16
 // its keys; of none where `on` is false. The keys of a child are counted once, for its turn and for the walk that goes on there.
 pub fn keep(
     rows: &[u16],
-    marks: &[u8; 4096],
+    marks: &[u8; MOST_ROWS],
     n: u16,
     at: Label,
     left: u16,
@@ -146,10 +150,17 @@ fn clear(out: &mut [u8], n: u16)
 
 // Fills the first n bytes with the marks of transition k: 1 for a kept label, else 0. The bytes after them stay. `own` are the keys
 // of the whole formula, so that a caller who asks for many transitions counts them once.
-pub fn mark_kept(rows: &[u16], marks: &[u8; 4096], n: u16, own: Distinct, k: u64, out: &mut [u8])
-    requires { ⌜ Keepable (now rows) (now marks) (now out) n 0 64 own k true ⌝ }
+pub fn mark_kept(
+    rows: &[u16],
+    marks: &[u8; MOST_ROWS],
+    n: u16,
+    own: Distinct,
+    k: u64,
+    out: &mut [u8],
+)
+    requires { ⌜ Keepable (now rows) (now marks) (now out) n 0 mostDepth own k true ⌝ }
     ensures { λ _. ⌜ MarkedKept (now (rows .entry)) (now (marks .entry)) n k (now (out .entry)) (now (out .exit)) ⌝ }
 {
     clear(out, n);
-    keep(rows, marks, n, Label(0), 64, own, k, true, out);
+    keep(rows, marks, n, Label(0), MOST_DEPTH, own, k, true, out);
 }

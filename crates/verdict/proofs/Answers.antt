@@ -5,7 +5,8 @@ use mathlib.Core.Path.{_≡_, refl, sym, ap}
 use mathlib.Core.Bool.{Bool, true, false, cond}
 use lib.Dec.{ltb}
 use borrow.Author.Tests.{ltb-false, lt-ltb, le-ltb}
-use Rattle.paper.specs.Judgement.{Judgement, accepted, refused, mostTransitions}
+use Rattle.paper.specs.Limits.{mostTransitions}
+use Rattle.paper.specs.Judgement.{Judgement, accepted, refused}
 use Rattle.table.specs.declared.Layout.{Layout}
 use Rattle.table.specs.Table.{layout}
 use Rattle.verdict.specs.declared.Judged.{Judged}

@@ -5,7 +5,9 @@ use mathlib.Core.Bool.{Bool, cond, not}
 use mathlib.Core.List.{List}
 use lib.Dec.{eqb, ltb}
 use lib.ListN.{getD}
-use Rattle.paper.specs.Judgement.{Judgement, accepted, refused, mostTransitions}
+use Rattle.paper.specs.Refusals.{tooMany}
+use Rattle.paper.specs.Limits.{mostTransitions}
+use Rattle.paper.specs.Judgement.{Judgement, accepted, refused}
 use Rattle.table.specs.declared.Layout.{Layout}
 use Rattle.rows.specs.Rows.{kindOf}
 use Rattle.sections.specs.Sections.{refusal}
@@ -35,4 +37,4 @@ isStranger rows chosen k = not (eqb (kindOf rows (getD chosen k 0)) 2)
 
 -- 14, or an acceptance: the answer by a number of transitions
 unfoldable pub countedAs : Layout → ℕ → Judged
-countedAs l n = cond (ltb mostTransitions n) (refusedAt 14 0) (acceptedWith l n)
+countedAs l n = cond (ltb mostTransitions n) (refusedAt tooMany 0) (acceptedWith l n)

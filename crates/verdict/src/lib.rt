@@ -6,9 +6,14 @@ ghost use Rattle.entries.specs.First.{first};
 ghost use Rattle.rows.specs.Walk.{Walkable};
 ghost use Rattle.keys.specs.Keys.{total, keysAt};
 ghost use Rattle.verdict.specs.Verdict.{refusedAt, isStranger, countedAs};
+ghost use Rattle.paper.specs.Limits.{mostDepth};
 use keys::keys_of;
 use keys::total_of;
 use paper::Label;
+use paper::limits::MOST_DEPTH;
+use paper::limits::MOST_ROWS;
+use paper::limits::MOST_TRANSITIONS;
+use paper::refusals::TOO_MANY;
 use rows::kind_of;
 use sections::Refusal;
 use table::Layout;
@@ -51,14 +56,14 @@ pub fn first_stranger(rows: &[u16], chosen: &[u16]) -> usize
 }
 
 // 14, or an acceptance.
-pub fn counted(rows: &[u16], marks: &[u8; 4096], l: Layout) -> Judged
+pub fn counted(rows: &[u16], marks: &[u8; MOST_ROWS], l: Layout) -> Judged
     requires { ⌜ Walkable (now rows) (l .rows) 0 ⌝ }
-    ensures { λ r. ⌜ r ≡ countedAs l (total (keysAt (now (rows .entry)) (now (marks .entry)) 64 0)) ⌝ }
+    ensures { λ r. ⌜ r ≡ countedAs l (total (keysAt (now (rows .entry)) (now (marks .entry)) mostDepth 0)) ⌝ }
 {
     let n = l.rows as u16;
-    let transitions = total_of(keys_of(rows, marks, n, Label(0), 64));
-    if 65535 < transitions {
-        return refused(14, 0);
+    let transitions = total_of(keys_of(rows, marks, n, Label(0), MOST_DEPTH));
+    if MOST_TRANSITIONS < transitions {
+        return refused(TOO_MANY, 0);
     }
     Judged::Accepted(Accepted {
         layout: l,

@@ -6,6 +6,7 @@ use mathlib.Core.List.{List, map}
 use mathlib.Core.Path.{_≡_}
 use mathlib.Core.Logic.{_↔_}
 use lib.ListN.{length, getD}
+use Rattle.paper.specs.Limits.{mostChosen, mostDepth, mostReads, mostRows, mostVariables, mostWords}
 use Rattle.paper.specs.Formula.{ℓ, Formula, labels, WellFormed}
 use Rattle.table.specs.declared.Layout.{Layout}
 use Rattle.table.specs.declared.Checked.the-variants.{Sound}
@@ -18,7 +19,7 @@ use Rattle.written.specs.Written.{Table, written, Within, takenReads, si
 module _ (words : List ℕ) (l : Layout) where
   -- the formula that the rows write, 64 levels deep at most
   abbrev pub formulaIn : Formula
-  formulaIn = formulaAt (rowsIn words l) (readsIn words l) 64 0
+  formulaIn = formulaAt (rowsIn words l) (readsIn words l) mostDepth 0
 
   abbrev pub tableIn : Table
   tableIn = record { names = namesIn words l; formula = formulaIn; strategy = map ℓ (chosenIn words l) }
@@ -48,13 +49,13 @@ pub record Understood (words : List ℕ) (l : Layout) : Type 0 where
   -- the counts and positions
   pub of-counts : l ≡ layout (l .variables) (l .reads) (l .rows) (l .chosen)
   pub all-words : length words ≡ l .«chosen_at» + l .chosen
-  pub most-words : length words ≤ 29700
+  pub most-words : length words ≤ mostWords
   pub some-variables : 1 ≤ l .variables
-  pub most-variables : l .variables ≤ 1024
-  pub most-reads : l .reads ≤ 8192
+  pub most-variables : l .variables ≤ mostVariables
+  pub most-reads : l .reads ≤ mostReads
   pub some-rows : 1 ≤ l .rows
-  pub most-rows : l .rows ≤ 4096
-  pub most-chosen : l .chosen ≤ 4096
+  pub most-rows : l .rows ≤ mostRows
+  pub most-chosen : l .chosen ≤ mostChosen
   -- the parts: they are all there
   pub names-there : length (namesIn words l) ≡ l .variables
   pub reads-there : length (readsIn words l) ≡ l .reads
@@ -69,7 +70,7 @@ pub record Understood (words : List ℕ) (l : Layout) : Type 0 where
   pub chosen-below : (k : ℕ) → k < l .chosen → getD (chosenIn words l) k 0 < l .rows
   -- the formula
   pub size-is : size (formulaIn words l) ≡ l .rows
-  pub shallow : depth (formulaIn words l) ≤ 64
+  pub shallow : depth (formulaIn words l) ≤ mostDepth
   pub labels-are : labels (formulaIn words l) ≡ labelsOn 0 (l .rows)
   pub reads-are : takenReads (formulaIn words l) ≡ readsIn words l
   pub well-formed : WellFormed (l .variables) (formulaIn words l)

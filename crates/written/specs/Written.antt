@@ -4,6 +4,7 @@ use Prim.Native.Nat.{ℕ, zero, suc, _+_, _<_, _≤_, max}
 use mathlib.Core.List.{List, [], _∷_, _++_, map, List·Memᴰ}
 use mathlib.Core.Path.{_≡_}
 use lib.ListN.{length}
+use Rattle.paper.specs.Limits.{mostChosen, mostDepth, mostReads, mostRows, mostVariables}
 use Rattle.paper.specs.declared.Label.{Label}
 use Rattle.paper.specs.declared.Variable.{Variable}
 use Rattle.paper.specs.Formula.{ℓ, Star, Candidate, Formula, Formulas, FALSE, test, candidate, conjunction, disjunction}
@@ -97,15 +98,15 @@ labelsOn i (suc n) = ℓ i ∷ labelsOn (suc i) n
 -- The bounds of document 01.
 pub record Within (t : Table) : Type 0 where
   pub some-names : 1 ≤ length (t .names)
-  pub most-names : length (t .names) ≤ 1024
+  pub most-names : length (t .names) ≤ mostVariables
   pub names-ascend : Ascend (t .names)
-  pub most-reads : length (takenReads (t .formula)) ≤ 8192
+  pub most-reads : length (takenReads (t .formula)) ≤ mostReads
   pub reads-ascend : (s : Star) → List·Memᴰ s (stars (t .formula)) → Ascend (readWords s)
   pub reads-below : (s : Star) → List·Memᴰ s (stars (t .formula)) → (v : Variable) → List·Memᴰ v (s .reads) → v .0 < length (t .names)
   pub assigned-below : (c : Candidate) → List·Memᴰ c (candidates (t .formula)) → c .variable .0 < length (t .names)
-  pub most-rows : size (t .formula) ≤ 4096
+  pub most-rows : size (t .formula) ≤ mostRows
   pub preorder : labels (t .formula) ≡ labelsOn 0 (size (t .formula))
-  pub shallow : depth (t .formula) ≤ 64
-  pub most-chosen : length (t .strategy) ≤ 4096
+  pub shallow : depth (t .formula) ≤ mostDepth
+  pub most-chosen : length (t .strategy) ≤ mostChosen
   pub chosen-ascend : Rising 0 (t .strategy)
   pub chosen-below : (l : Label) → List·Memᴰ l (t .strategy) → l .0 < size (t .formula)

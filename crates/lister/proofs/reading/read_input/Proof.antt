@@ -5,7 +5,7 @@ use mathlib.Core.Bool.{true≢false}
 use mathlib.Core.Path.{_≡_, refl}
 use borrow.Author.Needs.{needs}
 use lib.ListN.{length}
-use Rattle.input.specs.Length.{mostBytes}
+use Rattle.paper.specs.Limits.{mostBytes}
 use Rattle.lister.proofs.reading.read_input.Statement.{statement}
 use Rattle.lister.proofs.reading.read_input.Tie as tie
 
