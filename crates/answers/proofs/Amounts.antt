@@ -14,7 +14,7 @@ use Rattle.verdict.specs.declared.Judged.{Judged}
 use Rattle.verdict.specs.declared.Judged.the-variants as judged
 use Rattle.strategy.specs.Judge.{judgedOf}
 use Rattle.filling.specs.Filling.{Outcome, refuses, fills, unlessShort, filledOf}
-use Rattle.answers.specs.Requests.{FitFilled, reported, keyOf, marksOf, assignedOf, unlessAbsent, orderOutcome, ofTransition}
+use Rattle.answers.specs.Requests.{FitFilled, reported, keyOf, keptMarks, assignedOf, unlessAbsent, orderOutcome, ofTransition}
 use Rattle.answers.specs.Requests.{transitionOutcome, assignmentsOutcome, outcomeOf, orderOf, transitionOf, assignmentsOf, AcceptedAs}
 use Rattle.answers.proofs.Accepted.{is-understood}
 use Rattle.answers.proofs.Keeping.{amounts}
@@ -61,8 +61,8 @@ module _ (words : List ℕ) where
       (λ a e. let most = is-understood words a e .most-rows in
       let l = a .layout in
       let many = amounts words a e .transition-is k in
-      fit-absent k (a .transitions) (l .variables) (keyOf words l k) (unlessShort room (marksOf words l k))
-      (λ h. fit-short room (marksOf words l k) (omega arith)))
+      fit-absent k (a .transitions) (l .variables) (keyOf words l k) (unlessShort room (keptMarks words l k))
+      (λ h. fit-short room (keptMarks words l k) (omega arith)))
 
   pub assignments-fit : (k room : ℕ) → FitFilled (filledOf (assignmentsOf words k room))
   unfolding ofTransition

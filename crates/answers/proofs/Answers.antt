@@ -18,7 +18,7 @@ use Rattle.filling.specs.declared.Length.{Length}
 use Rattle.filling.specs.declared.Filled.{Filled}
 use Rattle.filling.specs.declared.Filled.the-variants as filled
 use Rattle.filling.specs.Filling.{Outcome, refuses, fills, unlessShort, filledOf, Fills}
-use Rattle.answers.specs.Requests.{keyOf, marksOf, ofTransition, outcomeOf}
+use Rattle.answers.specs.Requests.{keyOf, keptMarks, ofTransition, outcomeOf}
 
 module _ (words : List ℕ) (j : Judged) (answered : j ≡ judgedOf words) where
   pub refused-first : (x : Refusal) (e : j ≡ judged.Refused x) (next : Layout → ℕ → Outcome) (lent : List ℕ)
@@ -75,27 +75,27 @@ module _ (k count : ℕ) (ws : List ℕ) where
   passes false true f n e = record { is-there = refl; is-whole = refl; many = ap countIn (sym e ∙ f .answered); bytes = f .left-so }
 
 module _ (words : List ℕ) (k : ℕ) (l : Layout) (count : ℕ) (kept left : List ℕ) (r : Filled)
-    (f : Fills (ofTransition marksOf words k (length kept) l count) kept left r) (room : length (marksOf words l k) ≤ length kept) where
-  with-room : Fills (decided k count (leb count k) (eqb (length (keyOf words l k)) (l .variables)) (fills (marksOf words l k))) kept left r
+    (f : Fills (ofTransition keptMarks words k (length kept) l count) kept left r) (room : length (keptMarks words l k) ≤ length kept) where
+  with-room : Fills (decided k count (leb count k) (eqb (length (keyOf words l k)) (l .variables)) (fills (keptMarks words l k))) kept left r
   unfolding ofTransition
-  with-room = rw (le-ltb (length kept) (length (marksOf words l k)) room) at f
+  with-room = rw (le-ltb (length kept) (length (keptMarks words l k)) room) at f
 
   pub refused-alike : (x : Refusal) → r ≡ filled.Refused x → (what : List ℕ → Layout → ℕ → List ℕ) (lent : List ℕ)
       → Fills (ofTransition what words k (length lent) l count) lent lent r
   unfolding ofTransition
   refused-alike x e what lent =
-      same-refusal k count (marksOf words l k) (leb count k) (eqb (length (keyOf words l k)) (l .variables)) (with-room .answered) x e
+      same-refusal k count (keptMarks words l k) (leb count k) (eqb (length (keyOf words l k)) (l .variables)) (with-room .answered) x e
       (unlessShort (length lent) (what words l k)) lent
 
   pub record Whole (n : Length) : Type 0 where
     pub there : k < count
     pub has-all : length (keyOf words l k) ≡ l .variables
-    pub many : n .count ≡ length (marksOf words l k)
-    pub bytes : left ≡ marksOf words l k ++ drop (length (marksOf words l k)) kept
+    pub many : n .count ≡ length (keptMarks words l k)
+    pub bytes : left ≡ keptMarks words l k ++ drop (length (keptMarks words l k)) kept
 
   pub filled-whole : (n : Length) → r ≡ filled.Done n → Whole n
   filled-whole n e =
-      let p = passes k count (marksOf words l k) (leb count k) (eqb (length (keyOf words l k)) (l .variables)) with-room n e in
+      let p = passes k count (keptMarks words l k) (leb count k) (eqb (length (keyOf words l k)) (l .variables)) with-room n e in
       record {
         there = leb-false count k (p .is-there);
         has-all = eqb-true (length (keyOf words l k)) (l .variables) (p .is-whole);

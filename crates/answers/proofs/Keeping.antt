@@ -39,7 +39,7 @@ use Rattle.transitions.specs.Statements.{kthBytes, TransitionSays}
 use Rattle.transitions.proofs.MarkedBytes.{length-bytes}
 use Rattle.transitions.proofs.Words.{those-same, kept-labels, as-many-ordered}
 use Rattle.transitions.proofs.Numbered.{transition-says, transition-keepable}
-use Rattle.answers.specs.Requests.{reported, keyOf, marksOf, assignedOf, Amounts, AcceptedAs, Ordered, Kept}
+use Rattle.answers.specs.Requests.{reported, keyOf, keptMarks, assignedOf, Amounts, AcceptedAs, Ordered, Kept}
 use Rattle.answers.proofs.Accepted.{is-sound, is-understood, is-strategy, count-is, few-transitions, few-chosen, reported-length}
 
 relabelled : (ls : List Label) → map ℓ (map (λ (i : Label). i .0) ls) ≡ ls
@@ -91,10 +91,10 @@ module _ (words : List ℕ) (a : Accepted) (e : AcceptedAs words a) where
   pub lent-walkable : Walkable lentRows (l .rows) 0
   lent-walkable = rw rows-lent (walkable (parts-of words l (is-sound words a e)))
 
-  pub marks-length : (k : ℕ) → length (marksOf words l k) ≡ l .rows
+  pub marks-length : (k : ℕ) → length (keptMarks words l k) ≡ l .rows
   marks-length k = rw (u .labels-are) (length-bytes (isKept f A (keyOf words l k)) (l .rows))
 
-  pub marks-fit : (k : ℕ) → length (marksOf words l k) ≤ 4096
+  pub marks-fit : (k : ℕ) → length (keptMarks words l k) ≤ 4096
   marks-fit k = omega (arith, marks-length k, rows-fit)
 
   is-order : OrderOf (before f A) A (reported words l)
@@ -122,14 +122,14 @@ module _ (words : List ℕ) (a : Accepted) (e : AcceptedAs words a) where
         own (rw rows-lent at own-are) out (omega (arith, u .most-rows)))
 
     -- the bytes
-    marks-are : marksOf words l k ≡ kthBytes f A k (l .rows)
+    marks-are : keptMarks words l k ≡ kthBytes f A k (l .rows)
     marks-are = rw (u .labels-are) (sym (says .marks-are (l .rows)))
 
     pub bytes-left : {marks lent left : List ℕ} → Marked (map ℓ lentChosen) marks → MarkedKept lentRows marks (l .rows) k lent left
-        → left ≡ marksOf words l k ++ drop (length (marksOf words l k)) lent
+        → left ≡ keptMarks words l k ++ drop (length (keptMarks words l k)) lent
     bytes-left {lent = lent} m s =
         let b = rw rows-lent at (s .bytes-are A (lent-marked m) (readsIn words l)) in
-        b ∙ ap (λ bs. bs ++ drop (l .rows) lent) (sym marks-are) ∙ ap (λ n. marksOf words l k ++ drop n lent) (sym (marks-length k))
+        b ∙ ap (λ bs. bs ++ drop (l .rows) lent) (sym marks-are) ∙ ap (λ n. keptMarks words l k ++ drop n lent) (sym (marks-length k))
 
     -- what the chosen labels that are kept are
     kept-in-key : (x : Label) → has A x ≡ true → has (keptAt A f k) x ≡ has (keyOf words l k) x
@@ -147,13 +147,13 @@ module _ (words : List ℕ) (a : Accepted) (e : AcceptedAs words a) where
         ∙ says .key-has
 
     -- once the bytes stand in front
-    module _ (lent left : List ℕ) (stands : left ≡ marksOf words l k ++ drop (length (marksOf words l k)) lent) where
-      pub front-is : take (l .rows) left ≡ marksOf words l k
-      front-is = ap (take (l .rows)) stands ∙ take-at (marksOf words l k) (drop (length (marksOf words l k)) lent) (l .rows) (marks-length k)
+    module _ (lent left : List ℕ) (stands : left ≡ keptMarks words l k ++ drop (length (keptMarks words l k)) lent) where
+      pub front-is : take (l .rows) left ≡ keptMarks words l k
+      front-is = ap (take (l .rows)) stands ∙ take-at (keptMarks words l k) (drop (length (keptMarks words l k)) lent) (l .rows) (marks-length k)
 
       pub front-there : (l .rows ≤ length left) × (l .rows ≤ 4096)
       front-there =
-          (omega (arith, marks-length k, ap length stands, length-append (marksOf words l k) (drop (length (marksOf words l k)) lent)), u .most-rows)
+          (omega (arith, marks-length k, ap length stands, length-append (keptMarks words l k) (drop (length (keptMarks words l k)) lent)), u .most-rows)
 
       front-bytes : take (l .rows) left ≡ kthBytes f A k (l .rows)
       front-bytes = front-is ∙ marks-are

@@ -58,11 +58,11 @@ module _ (words : List ℕ) (l : Layout) where
   keyOf k = getD (keys (formulaIn words l) (proposalIn words l)) k []
 
   -- 1 for a kept label, else 0
-  abbrev pub markOf : ℕ → Label → ℕ
-  markOf k i = cond (isKept (formulaIn words l) (proposalIn words l) (keyOf k) i) 1 0
+  abbrev pub keptMark : ℕ → Label → ℕ
+  keptMark k i = cond (isKept (formulaIn words l) (proposalIn words l) (keyOf k) i) 1 0
 
-  abbrev pub marksOf : ℕ → List ℕ
-  marksOf k = map (markOf k) (labels (formulaIn words l))
+  abbrev pub keptMarks : ℕ → List ℕ
+  keptMarks k = map (keptMark k) (labels (formulaIn words l))
 
   -- its chosen labels in reported order
   abbrev pub assignedOf : ℕ → List ℕ
@@ -80,7 +80,7 @@ unfoldable pub ofTransition : (List ℕ → Layout → ℕ → List ℕ) → Lis
 ofTransition what words k room l count = unlessAbsent k count (l .variables) (keyOf words l k) (unlessShort room (what words l k))
 
 abbrev pub transitionOutcome : List ℕ → ℕ → ℕ → Layout → ℕ → Outcome
-transitionOutcome = ofTransition marksOf
+transitionOutcome = ofTransition keptMarks
 
 abbrev pub assignmentsOutcome : List ℕ → ℕ → ℕ → Layout → ℕ → Outcome
 assignmentsOutcome = ofTransition assignedOf
@@ -103,7 +103,7 @@ assignmentsOf words k room = outcomeOf (judgedOf words) (assignmentsOutcome word
 -- What an accepted table's requests fill: S words, N bytes, V words. Each of its transitions has V chosen labels, so 18 is never met.
 pub record Amounts (words : List ℕ) (a : Accepted) : Type 0 where
   pub order-is : length (reported words (a .layout)) ≡ a .layout .chosen
-  pub transition-is : (k : ℕ) → length (marksOf words (a .layout) k) ≡ a .layout .rows
+  pub transition-is : (k : ℕ) → length (keptMarks words (a .layout) k) ≡ a .layout .rows
   pub assignments-are : (k : ℕ) → k < a .transitions → length (assignedOf words (a .layout) k) ≡ a .layout .variables
   pub each-whole : (k : ℕ) → k < a .transitions → length (keyOf words (a .layout) k) ≡ a .layout .variables
 
@@ -123,5 +123,5 @@ pub record Asked (words : List ℕ) (a : Accepted) (k : ℕ) (kept : List ℕ) :
 
 -- the bytes of transition k stand in front of what was there, and how many chosen labels it keeps
 pub record Kept (words : List ℕ) (l : Layout) (k : ℕ) (lent left : List ℕ) (chosen : ℕ) : Type 0 where
-  pub bytes : left ≡ inFront (marksOf words l k) lent
+  pub bytes : left ≡ inFront (keptMarks words l k) lent
   pub many : chosen ≡ length (keyOf words l k)

@@ -13,18 +13,18 @@ use Rattle.rows.specs.Walk.{valueAt}
 use Rattle.written.specs.Example.{wordsOfP}
 use Rattle.cover.specs.declared.Covering.the-variants.{Missed, Doubled, Covered}
 use Rattle.marks.specs.Marks.{isMarked}
-use Rattle.cover.specs.Words.{unitWords, joinWords, maskOf, bitAt, isMissed, isDoubled, coveringOf}
+use Rattle.cover.specs.Masks.{unitMasks, joinMasks, maskOf, bitAt, isMissed, isDoubled, coveringOf}
 
 abbrev rowsOfP : List ℕ
 rowsOfP = drop 6 wordsOfP
 
 -- with strategy 1 4 6, and with 1 4
 P-is-covered : coveringOf rowsOfP (0 ∷ 1 ∷ 0 ∷ 0 ∷ 1 ∷ 0 ∷ 1 ∷ []) 2 ≡ Covered
-unfolding first formOf starAt childrenAt nodeAt formulaAt valueAt isMarked unitWords joinWords maskOf bitAt isMissed isDoubled coveringOf
+unfolding first formOf starAt childrenAt nodeAt formulaAt valueAt isMarked unitMasks joinMasks maskOf bitAt isMissed isDoubled coveringOf
 P-is-covered = refl
 
 y-is-missed : coveringOf rowsOfP (0 ∷ 1 ∷ 0 ∷ 0 ∷ 1 ∷ []) 2 ≡ Missed (𝓋 1)
-unfolding first formOf starAt childrenAt nodeAt formulaAt valueAt isMarked unitWords joinWords maskOf bitAt isMissed isDoubled coveringOf
+unfolding first formOf starAt childrenAt nodeAt formulaAt valueAt isMarked unitMasks joinMasks maskOf bitAt isMissed isDoubled coveringOf
 y-is-missed = refl
 
 -- x' in s and x' in s, with strategy 1 3
@@ -32,7 +32,7 @@ abbrev twiceX : List ℕ
 twiceX = 3 ∷ 2 ∷ 5 ∷ 0 ∷ 2 ∷ 0 ∷ 3 ∷ 0 ∷ 1 ∷ 0 ∷ 3 ∷ 0 ∷ 2 ∷ 0 ∷ 5 ∷ 0 ∷ 1 ∷ 0 ∷ 5 ∷ 0 ∷ []
 
 x-is-doubled : coveringOf twiceX (0 ∷ 1 ∷ 0 ∷ 1 ∷ []) 1 ≡ Doubled (𝓋 0)
-unfolding first formOf starAt childrenAt nodeAt formulaAt valueAt isMarked unitWords joinWords maskOf bitAt isMissed isDoubled coveringOf
+unfolding first formOf starAt childrenAt nodeAt formulaAt valueAt isMarked unitMasks joinMasks maskOf bitAt isMissed isDoubled coveringOf
 x-is-doubled = refl
 
 -- x' in s or FALSE, with strategy 1
@@ -40,12 +40,12 @@ abbrev xOrFALSE : List ℕ
 xOrFALSE = 4 ∷ 2 ∷ 4 ∷ 0 ∷ 2 ∷ 0 ∷ 3 ∷ 0 ∷ 1 ∷ 0 ∷ 3 ∷ 0 ∷ 0 ∷ 0 ∷ 4 ∷ 0 ∷ []
 
 x-is-missed : coveringOf xOrFALSE (0 ∷ 1 ∷ []) 1 ≡ Missed (𝓋 0)
-unfolding first formOf starAt childrenAt nodeAt formulaAt valueAt isMarked unitWords joinWords maskOf bitAt isMissed isDoubled coveringOf
+unfolding first formOf starAt childrenAt nodeAt formulaAt valueAt isMarked unitMasks joinMasks maskOf bitAt isMissed isDoubled coveringOf
 x-is-missed = refl
 
 abbrev only256 : List ℕ
 only256 = 2 ∷ 256 ∷ 2 ∷ 0 ∷ 1 ∷ 0 ∷ 2 ∷ 0 ∷ []
 
 variable-256 : (isMissed only256 (1 ∷ []) 256 ≡ false) × (isMissed only256 (1 ∷ []) 0 ≡ true)
-unfolding formOf starAt childrenAt nodeAt formulaAt valueAt isMarked unitWords joinWords maskOf bitAt isMissed
+unfolding formOf starAt childrenAt nodeAt formulaAt valueAt isMarked unitMasks joinMasks maskOf bitAt isMissed
 variable-256 = (refl, refl)

@@ -18,50 +18,50 @@ use Rattle.paper.specs.declared.Variable.{Variable}
 use Rattle.paper.specs.Lists.{those}
 use Rattle.paper.specs.Formula.{𝓋, has, alike, labels, WellFormed, Formula}
 use Rattle.paper.specs.Judgement.{Judgement, refuse, variables, missed, doubled}
-use Rattle.paper.specs.Structure.Reading.{readOf}
-use Rattle.paper.specs.Structure.Cover.{Cover, cover, leafCover, unitCover, bothCover, joinCover, coverReading, coverOf}
+use Rattle.paper.specs.Structure.Fold.{foldOf}
+use Rattle.paper.specs.Structure.Cover.{Cover, cover, leafCover, unitCover, bothCover, joinCover, coverFold, coverOf}
 use Rattle.paper.proofs.Bools.{same-answer}
 use Rattle.paper.proofs.Lists.{those-append, to-those, of-those}
 use Rattle.paper.proofs.Variables.{to-variables}
-use Rattle.paper.proofs.Readings.{leaves-map, carried}
+use Rattle.paper.proofs.Folds.{leaves-map, carried}
 use Rattle.paper.proofs.Cover.{counts-say}
 use Rattle.entries.specs.First.{first}
 use Rattle.rows.specs.Formula.{formulaAt}
 use Rattle.entries.proofs.First.{first-found, first-none, first-below, first-at, first-all, first-same}
 use Rattle.rows.proofs.Walks.{value-read}
-use Rattle.cover.specs.declared.Words.{Words}
+use Rattle.cover.specs.declared.Masks.{Masks}
 use Rattle.cover.specs.declared.Covering.the-variants.{Missed, Doubled, Covered}
 use Rattle.marks.specs.Marks.{isMarked, Marked}
-use Rattle.cover.specs.Words.{leafWords, unitWords, bothWords, joinWords, maskOf, wordsReading, wordsAt}
-use Rattle.cover.specs.Words.{bitAt, isMissed, isDoubled, firstOf, coveringOf, coveringBy, judgementOf}
+use Rattle.cover.specs.Masks.{leafMasks, unitMasks, bothMasks, joinMasks, maskOf, masksFold, masksAt}
+use Rattle.cover.specs.Masks.{bitAt, isMissed, isDoubled, lowestOf, coveringOf, coveringBy, judgementOf}
 use Rattle.cover.proofs.Leaves.{leaves-labelled}
 use Rattle.cover.proofs.Bits.{and-bit, or-bit, zero-bit, all-bit, power-bit}
 
 -- bit b of each word, as the cover of one variable
-abbrev pub coverAt : ℕ → Words → Cover
+abbrev pub coverAt : ℕ → Masks → Cover
 coverAt b w = cover (w .live) (bitAt (w .always) b) (bitAt (w .ever) b) (bitAt (w .twice) b)
 
 covers : {l a b e f t u : Bool} → a ≡ b → e ≡ f → t ≡ u → cover l a e t ≡ cover l b f u
 covers p q r = cc
 
 module _ (b : ℕ) (h : b < 64) where
-  at-leaf : (mask : ℕ) {chosen : Bool} → bitAt mask b ≡ chosen → coverAt b (leafWords mask) ≡ leafCover chosen
+  at-leaf : (mask : ℕ) {chosen : Bool} → bitAt mask b ≡ chosen → coverAt b (leafMasks mask) ≡ leafCover chosen
   at-leaf mask e = covers e e (zero-bit b)
 
-  at-unit : (c : Bool) → coverAt b (unitWords c) ≡ unitCover c
-  unfolding unitWords
+  at-unit : (c : Bool) → coverAt b (unitMasks c) ≡ unitCover c
+  unfolding unitMasks
   at-unit true = covers (zero-bit b) (zero-bit b) (zero-bit b)
   at-unit false = covers (all-bit b h) (zero-bit b) (zero-bit b)
 
-  at-both : (l m : Bool) (x y : Words) → coverAt b (bothWords l m x y) ≡ bothCover l m (coverAt b x) (coverAt b y)
+  at-both : (l m : Bool) (x y : Masks) → coverAt b (bothMasks l m x y) ≡ bothCover l m (coverAt b x) (coverAt b y)
   at-both true true x y =
       covers (or-bit (x .always) (y .always) b) (or-bit (x .ever) (y .ever) b)
       (or-bit (bitOr (x .twice) (y .twice)) (bitAnd (x .ever) (y .ever)) b ∙ cc (or-bit (x .twice) (y .twice) b, and-bit (x .ever) (y .ever) b))
   at-both true false x y = refl
   at-both false m x y = refl
 
-  at-join : (c : Bool) (x y : Words) → coverAt b (joinWords c x y) ≡ joinCover c (coverAt b x) (coverAt b y)
-  unfolding joinWords
+  at-join : (c : Bool) (x y : Masks) → coverAt b (joinMasks c x y) ≡ joinCover c (coverAt b x) (coverAt b y)
+  unfolding joinMasks
   at-join true x y = at-both (x .live) (y .live) x y
   at-join false x y = covers (and-bit (x .always) (y .always) b) (or-bit (x .ever) (y .ever) b) (or-bit (x .twice) (y .twice) b)
 
@@ -88,10 +88,10 @@ module _ (b : ℕ) (h : b < 64) where
     chosen-bit : (l : Label) (v : Variable) → l .0 < 4096 → bitAt (maskOf marks block (l .0) (v .0)) b ≡ (has A l && alike (𝓋 (64 * block + b)) v)
     chosen-bit l v g = rw (← marked .marks-are (l .0) g) (mask-bit marks block (l .0) (v .0))
 
-    pub at-words : (f : Formula) → ((l : Label) → List·Memᴰ l (labels f) → l .0 < 4096)
-        → coverAt b (readOf (wordsReading marks block) f) ≡ coverOf A (𝓋 (64 * block + b)) f
-    at-words f few =
-        carried (wordsReading marks block) (coverReading A (𝓋 (64 * block + b))) (coverAt b) at-unit at-join f
+    pub at-masks : (f : Formula) → ((l : Label) → List·Memᴰ l (labels f) → l .0 < 4096)
+        → coverAt b (foldOf (masksFold marks block) f) ≡ coverOf A (𝓋 (64 * block + b)) f
+    at-masks f few =
+        carried (masksFold marks block) (coverFold A (𝓋 (64 * block + b))) (coverAt b) at-unit at-join f
         (leaves-map (λ l g. at-leaf _ (zero-bit b)) (λ l g. at-leaf _ (zero-bit b))
         (λ l v g. at-leaf _ (chosen-bit l v g)) f (leaves-labelled (λ l. l .0 < 4096) f few))
 
@@ -126,7 +126,7 @@ module _ (p : Variable → Bool) where
       same-answer (bad v) (passes v) (λ e. of-those p (variables n) (exactly v h .0 e) .1) (λ e. exactly v h .1 (to-those p (to-variables n (𝓋 v) h) e))
 
 lowest-of-two : {p q : Variable → Bool} {n : ℕ} {xs ys : List Variable} → Lowest p n xs → Lowest q n ys
-    → firstOf n (first (passes p) n) (first (passes q) n) ≡ coveringBy xs ys
+    → lowestOf n (first (passes p) n) (first (passes q) n) ≡ coveringBy xs ys
 lowest-of-two {n = n} (none d) (none e) = rw (d, e, le-ltb n n (le-refl n))
 lowest-of-two {n = n} (none d) (some {k = k} e h) = rw (d, e, le-ltb n n (le-refl n), lt-ltb k n h)
 lowest-of-two {n = n} (some {k = k} d g) s = rw (d, lt-ltb k n g)
@@ -154,19 +154,19 @@ refuse-by [] (y ∷ ys) next = refl
 refuse-by (x ∷ xs) ys next = refl
 
 -- Rows that write a formula whose labels have marks, and the marks of A: bit b of a block's words is the cover of its variable.
-pub words-say : (rows reads : List ℕ) (left i : ℕ) {f : Formula} → f ≡ formulaAt rows reads left i → {A : List Label} {marks : List ℕ}
+pub masks-say : (rows reads : List ℕ) (left i : ℕ) {f : Formula} → f ≡ formulaAt rows reads left i → {A : List Label} {marks : List ℕ}
     → Marked A marks → ((l : Label) → List·Memᴰ l (labels f) → l .0 < 4096) → (block b : ℕ) → b < 64
-    → coverAt b (wordsAt rows marks block left i) ≡ coverOf A (𝓋 (64 * block + b)) f
-words-say rows reads left i {f} written {A} {marks} marked few block b h =
-    ap (coverAt b) (sym (value-read (wordsReading marks block) rows reads left i) ∙ ap (readOf (wordsReading marks block)) (sym written))
-    ∙ at-words b h marked block f few
+    → coverAt b (masksAt rows marks block left i) ≡ coverOf A (𝓋 (64 * block + b)) f
+masks-say rows reads left i {f} written {A} {marks} marked few block b h =
+    ap (coverAt b) (sym (value-read (masksFold marks block) rows reads left i) ∙ ap (foldOf (masksFold marks block)) (sym written))
+    ∙ at-masks b h marked block f few
 
 module _ (rows reads : List ℕ) {f : Formula} (written : f ≡ formulaAt rows reads 64 0) {A : List Label} {marks : List ℕ} (marked : Marked A marks)
     (few : (l : Label) → List·Memᴰ l (labels f) → l .0 < 4096) where
-  cover-of : (v : ℕ) → coverAt (v % 64) (wordsAt rows marks (v / 64) 64 0) ≡ coverOf A (𝓋 v) f
+  cover-of : (v : ℕ) → coverAt (v % 64) (masksAt rows marks (v / 64) 64 0) ≡ coverOf A (𝓋 v) f
   cover-of v =
       let e : 64 * (v / 64) + v % 64 ≡ v = omega (arith, div-add-mod' v 64) in
-      words-say rows reads 64 0 written marked few (v / 64) (v % 64) (mod-lt v (omega arith)) ∙ rw e
+      masks-say rows reads 64 0 written marked few (v / 64) (v % 64) (mod-lt v (omega arith)) ∙ rw e
 
   missed-is : (v : ℕ) → isMissed rows marks v ≡ not (coverOf A (𝓋 v) f .always)
   unfolding isMissed

@@ -3,7 +3,7 @@ use mathlib.Core.Path.{refl}
 use mathlib.Core.List.{List·Memᴰ, List·Memᴰ·head, List·Memᴰ·tail, Memᴰ·append-left, Memᴰ·append-right}
 use Rattle.paper.specs.declared.Label.{Label}
 use Rattle.paper.specs.Formula.{labels, labelsOf, Formula, Formulas, FALSE, test, candidate, conjunction, disjunction, exists, IF, only, _⨾_}
-use Rattle.paper.proofs.Readings.{AtLeaves, AtLeavesOf}
+use Rattle.paper.proofs.Folds.{AtLeaves, AtLeavesOf}
 
 module _ (P : Label → Type 0) where
   mutual

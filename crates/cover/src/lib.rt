@@ -4,7 +4,7 @@ ghost use mathlib.Core.Path.{_≡_};
 ghost use Prim.Native.Nat.{_+_, _≤_, _<_, min};
 ghost use Rattle.entries.specs.First.{first};
 ghost use Rattle.rows.specs.Walk.{Walkable};
-ghost use Rattle.cover.specs.Words.{unitWords, joinWords, leafWords, maskOf, wordsAt, bitAt, further, coveringOf};
+ghost use Rattle.cover.specs.Masks.{unitMasks, joinMasks, leafMasks, maskOf, masksAt, bitAt, further, coveringOf};
 ghost use Rattle.paper.specs.Limits.{mostRows};
 use marks::is_marked;
 use paper::Label;
@@ -19,7 +19,7 @@ use rows::walk::first_of;
 
 // Over the branches of a formula, for 64 variables at a time: bit b of `always` if each branch has a chosen candidate of
 // variable 64 * block + b, of `ever` if some has one, of `twice` if some has two or more; `live` if there is a branch.
-pub struct Words {
+pub struct Masks {
     pub live: bool,
     pub always: u64,
     pub ever: u64,
@@ -34,18 +34,18 @@ pub enum Covering {
 }
 
 // What a conjunction starts from, one branch with nothing on it, and any other join, no branch.
-fn unit_of(conj: bool) -> Words
-    ensures { λ r. ⌜ r ≡ unitWords conj ⌝ }
+fn unit_of(conj: bool) -> Masks
+    ensures { λ r. ⌜ r ≡ unitMasks conj ⌝ }
 {
     if conj {
-        Words {
+        Masks {
             live: true,
             always: 0,
             ever: 0,
             twice: 0,
         }
     } else {
-        Words {
+        Masks {
             live: false,
             always: 18446744073709551615,
             ever: 0,
@@ -55,13 +55,13 @@ fn unit_of(conj: bool) -> Words
 }
 
 // A join of what was read before and of one child more.
-fn join(conj: bool, a: Words, b: Words) -> Words
-    ensures { λ r. ⌜ r ≡ joinWords conj a b ⌝ }
+fn join(conj: bool, a: Masks, b: Masks) -> Masks
+    ensures { λ r. ⌜ r ≡ joinMasks conj a b ⌝ }
 {
     if conj {
         if a.live {
             if b.live {
-                Words {
+                Masks {
                     live: true,
                     always: a.always | b.always,
                     ever: a.ever | b.ever,
@@ -74,7 +74,7 @@ fn join(conj: bool, a: Words, b: Words) -> Words
             a
         }
     } else {
-        Words {
+        Masks {
             live: a.live | b.live,
             always: a.always & b.always,
             ever: a.ever | b.ever,
@@ -84,14 +84,14 @@ fn join(conj: bool, a: Words, b: Words) -> Words
 }
 
 // A candidate: the bit of its variable, if it is chosen and its variable is of the block.
-fn leaf_of(marks: &[u8; MOST_ROWS], block: u16, at: Label, v: Variable) -> Words
+fn leaf_of(marks: &[u8; MOST_ROWS], block: u16, at: Label, v: Variable) -> Masks
     requires { ⌜ at .0 < mostRows ⌝ }
-    ensures { λ r. ⌜ r ≡ leafWords (maskOf (now (marks .entry)) block (at .0) (v .0)) ⌝ }
+    ensures { λ r. ⌜ r ≡ leafMasks (maskOf (now (marks .entry)) block (at .0) (v .0)) ⌝ }
 {
     if v.0 / 64 == block {
         if is_marked(marks, at) {
             let bit = 1u64 << (v.0 % 64);
-            return Words {
+            return Masks {
                 live: true,
                 always: bit,
                 ever: bit,
@@ -99,7 +99,7 @@ fn leaf_of(marks: &[u8; MOST_ROWS], block: u16, at: Label, v: Variable) -> Words
             };
         }
     }
-    Words {
+    Masks {
         live: true,
         always: 0,
         ever: 0,
@@ -107,17 +107,17 @@ fn leaf_of(marks: &[u8; MOST_ROWS], block: u16, at: Label, v: Variable) -> Words
     }
 }
 
-// The words of the formula at a row, `left` levels deep at most, for the variables of a block.
-fn words_of(
+// The masks of the formula at a row, `left` levels deep at most, for the variables of a block.
+fn masks_of(
     rows: &[u16],
     marks: &[u8; MOST_ROWS],
     n: u16,
     at: Label,
     left: u16,
     block: u16,
-) -> Words
+) -> Masks
     requires { ⌜ Walkable (now rows) n (at .0) ⌝ }
-    ensures { λ r. ⌜ r ≡ wordsAt (now (rows .entry)) (now (marks .entry)) block left (at .0) ⌝ }
+    ensures { λ r. ⌜ r ≡ masksAt (now (rows .entry)) (now (marks .entry)) block left (at .0) ⌝ }
 {
     if left == 0 {
         return unit_of(true);
@@ -133,7 +133,7 @@ fn words_of(
             let mut m = expressions_of(rows, at);
             let mut k = first_of(rows, at);
             while 0 < m {
-                acc = join(conj, acc, words_of(rows, marks, n, k, left - 1, block));
+                acc = join(conj, acc, masks_of(rows, marks, n, k, left - 1, block));
                 k = end_of(rows, k);
                 m -= 1;
             }
@@ -193,7 +193,7 @@ pub fn covering_of(rows: &[u16], marks: &[u8; MOST_ROWS], n: u16, variables: u16
     let mut v: u16 = 0;
     let mut two: u16 = 0;
     while v < variables {
-        let w = words_of(rows, marks, n, Label(0), MOST_DEPTH, block);
+        let w = masks_of(rows, marks, n, Label(0), MOST_DEPTH, block);
         let m = lesser(64, variables - v);
         let one = lowest_bit(w.always ^ 18446744073709551615, m);
         if one < m {

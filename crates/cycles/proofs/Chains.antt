@@ -9,7 +9,7 @@ use Rattle.paper.specs.Order.{leads}
 use Rattle.paper.proofs.Bools.{both, and-left, and-right, or-left, or-right, or-cases, pick}
 use Rattle.net.specs.Prior.{upTo}
 use Rattle.fingers.specs.Graph.{Graph}
-use Rattle.cycles.specs.Path.{ringed, Chain, here, step}
+use Rattle.cycles.specs.Path.{isOnRing, Trail, here, step}
 use Rattle.fingers.proofs.Kept.{in-upTo, of-upTo}
 
 module _ (R : ℕ → ℕ → Bool) where
@@ -48,11 +48,11 @@ module _ (R : ℕ → ℕ → Bool) where
       go (inr m) (inr p) (inr q) r = through (first i k p) (second k j q)
 
 module _ (g : Graph) where
-  pub chains-join : {i k j : ℕ} → Chain g i k → Chain g k j → Chain g i j
+  pub chains-join : {i k j : ℕ} → Trail g i k → Trail g k j → Trail g i j
   chains-join here t = t
   chains-join (step h e s) t = step h e (chains-join s t)
 
-  begins : {i j : ℕ} → Chain g i j → (i ≡ j) ⊎ (i < g .size)
+  begins : {i j : ℕ} → Trail g i j → (i ≡ j) ⊎ (i < g .size)
   begins here = inl refl
   begins (step h e s) = inr h
 
@@ -66,7 +66,7 @@ module _ (g : Graph) where
   lead-trans i k j h = leads-trans (g .before) (upTo (g .size)) i k j (in-upTo (g .size) k h)
 
   -- a chain between two numbers is found by the test
-  chain-leads : {i j : ℕ} → Chain g i j → (i ≡ j) ⊎ (lead i j ≡ true)
+  chain-leads : {i j : ℕ} → Trail g i j → (i ≡ j) ⊎ (lead i j ≡ true)
   chain-leads here = inl refl
   chain-leads {i} {j} (step {k = k} h e s) = go (begins s) (chain-leads s)
     where
@@ -76,18 +76,18 @@ module _ (g : Graph) where
       go (inr l) (inr q) = inr (lead-trans i k j l (lead-step i k e) q)
 
   -- two numbers that lead to one another are on a cycle; so is one that is before itself
-  pub ring-of : (i j : ℕ) → j < g .size → (i ≡ j → ⊥) → Chain g i j → Chain g j i → ringed g i ≡ true
-  unfolding ringed
+  pub ring-of : (i j : ℕ) → j < g .size → (i ≡ j → ⊥) → Trail g i j → Trail g j i → isOnRing g i ≡ true
+  unfolding isOnRing
   ring-of i j h d s t =
       pick (chain-leads s) (λ e. absurd (d e)) (λ a. pick (chain-leads t) (λ e. absurd (d (sym e))) (λ b. lead-trans i j i h a b))
 
-  pub self-ring : (i : ℕ) → g .before i i ≡ true → ringed g i ≡ true
-  unfolding ringed
+  pub self-ring : (i : ℕ) → g .before i i ≡ true → isOnRing g i ≡ true
+  unfolding isOnRing
   self-ring i e = lead-step i i e
 
   -- the last step of what the test finds
   abbrev Ends : ℕ → ℕ → Type 0
-  Ends i j = (x : ℕ) × (x < g .size) × Chain g i x × (g .before x j ≡ true)
+  Ends i j = (x : ℕ) × (x < g .size) × Trail g i x × (g .before x j ≡ true)
 
   ends-join : (i k j : ℕ) → Ends i k → Ends k j → Ends i j
   ends-join i k j (x, h, s, e) (y, l, t, f) = (y, l, chains-join s (step h e t), f)
@@ -100,6 +100,6 @@ module _ (g : Graph) where
       (λ q. ends-join i k j (more i k h (and-left (leads (g .before) ks i k) _ q))
       (more k j (all k (List·Memᴰ·head refl)) (and-right (leads (g .before) ks i k) _ q)))
 
-  pub of-ring : (i : ℕ) → i < g .size → ringed g i ≡ true → (x : ℕ) × (x < g .size) × Chain g i x × (g .before x i ≡ true)
-  unfolding ringed
+  pub of-ring : (i : ℕ) → i < g .size → isOnRing g i ≡ true → (x : ℕ) × (x < g .size) × Trail g i x × (g .before x i ≡ true)
+  unfolding isOnRing
   of-ring i h e = leads-ends (upTo (g .size)) (of-upTo (g .size)) i i h e

@@ -9,10 +9,10 @@ use lib.ListN.{length, getD}
 use borrow.Author.Tests.{eq-eqb}
 use Rattle.paper.proofs.Bools.{not-so, same-answer}
 use Rattle.rows.specs.Rows.{fromOf}
-use Rattle.net.specs.Prior.{isFrozen, together, variableOf, prior, guardOf}
+use Rattle.net.specs.Prior.{isFrozen, shareBranchIn, variableOf, prior, guardOf}
 use Rattle.net.specs.Net.{guardsFrom}
 use Rattle.fingers.specs.Ready.{Ready}
-use Rattle.fingers.specs.Places.{stopOf, readsAny, Place, pending, After}
+use Rattle.fingers.specs.Spots.{stopOf, readsAny, IsSpot, pending, After}
 use Rattle.fingers.proofs.Tests.{by, by-lt, never}
 use Rattle.fingers.proofs.Guards.{the-guard}
 use Rattle.fingers.proofs.GoesOn.{Part, chained, readLater, readAround, parts, joins, some-star, stop-in, after-star, reads-none}
@@ -20,14 +20,14 @@ use Rattle.fingers.proofs.Seeking.{own-in, own-star, from-in, all-frozen}
 
 -- a number is before itself where its own variable is frozen at it
 prior-itself : (rows reads chosen : List ℕ) (j : ℕ) → prior rows reads chosen j j ≡ isFrozen rows reads (getD chosen j 0) (variableOf rows chosen j)
-unfolding prior together
+unfolding prior shareBranchIn
 prior-itself rows reads chosen j =
     let l = getD chosen j 0 in
     rw (eq-eqb l l refl) (and-true (isFrozen rows reads l (variableOf rows chosen j)))
 
 -- the star around a star: a place, before all that it reads
 module _ (rows reads chosen net : List ℕ) (#N : ℕ) (ready : Ready rows reads chosen net #N) (s : ℕ)
-    (P : Place rows chosen #N s (fromOf rows s) (length chosen)) (h : 0 < s) where
+    (P : IsSpot rows chosen #N s (fromOf rows s) (length chosen)) (h : 0 < s) where
   outer : After rows reads chosen #N s (stopOf rows s) (length chosen) (getD net (guardsFrom + s) 0) (fromOf rows (getD net (guardsFrom + s) 0)) (length chosen)
   outer = after-star rows reads chosen net #N ready s (stopOf rows s) (length chosen)
       (record { star = P .star; kind = P .kind; read = λ _. let z = stop in omega (arith, ready .few); number = omega arith }) h (omega arith) (omega arith)
@@ -35,7 +35,7 @@ module _ (rows reads chosen net : List ℕ) (#N : ℕ) (ready : Ready rows reads
       stop : stopOf rows s ≤ length reads
       stop = stop-in rows reads chosen net #N ready s (fromOf rows s) (length chosen) P h
 
-  pub outer-place : Place rows chosen #N (getD net (guardsFrom + s) 0) (fromOf rows (getD net (guardsFrom + s) 0)) (length chosen)
+  pub outer-place : IsSpot rows chosen #N (getD net (guardsFrom + s) 0) (fromOf rows (getD net (guardsFrom + s) 0)) (length chosen)
   outer-place = outer .place
 
   pub outer-lower : getD net (guardsFrom + s) 0 < s
@@ -52,7 +52,7 @@ module _ (rows reads chosen : List ℕ) (j : ℕ) where
   below-none s h = not-so _ (λ e. let z = some-star rows reads chosen s (fromOf rows s) (length chosen) j e in omega arith)
 
   module _ (net : List ℕ) (#N : ℕ) (ready : Ready rows reads chosen net #N) (s : ℕ)
-      (P : Place rows chosen #N s (fromOf rows s) (length chosen)) (h : 0 < s) where
+      (P : IsSpot rows chosen #N s (fromOf rows s) (length chosen)) (h : 0 < s) where
     pub below-read : readsAny reads (fromOf rows s) (stopOf rows s) (variableOf rows chosen j) ≡ true → below s ≡ true
     below-read e = joins rows reads chosen s (fromOf rows s) (length chosen) j h (readLater e)
 
@@ -78,7 +78,7 @@ module _ (rows reads chosen : List ℕ) (j : ℕ) where
 
   -- the own star of j
   module _ (net : List ℕ) (#N : ℕ) (ready : Ready rows reads chosen net #N) (hj : j < length chosen) where
-    pub own-place : Place rows chosen #N (getD chosen j 0 + 1) (fromOf rows (getD chosen j 0 + 1)) (length chosen)
+    pub own-place : IsSpot rows chosen #N (getD chosen j 0 + 1) (fromOf rows (getD chosen j 0 + 1)) (length chosen)
     own-place = record {
       star = own-in rows reads chosen #N net ready j hj;
       kind = λ _. own-star rows reads chosen #N net ready j hj;

@@ -10,7 +10,7 @@ use lib.ListN.{length, getD}
 use borrow.Author.Tests.{ne-eqb}
 use Rattle.net.specs.Prior.{upTo}
 use Rattle.fingers.specs.Graph.{Graph, free, leftOf}
-use Rattle.cycles.specs.Path.{ringed, Chain, here, step, Walked, Best, Grown, Finished, Counted}
+use Rattle.cycles.specs.Path.{isOnRing, Trail, here, step, Walked, Best, Grown, Finished, Counted}
 use Rattle.fingers.proofs.Tests.{by-eq, by-lt}
 use Rattle.fingers.proofs.Kept.{of-upTo, those-same}
 use Rattle.cycles.proofs.Chains.{ring-of, of-ring}
@@ -101,7 +101,7 @@ module _ (g : Graph) (mark stack bound finger : List ℕ) (len top at : ℕ) (P 
       under-all (suc k) hk = let z = under-all k (omega arith) in let r = P .rising k (suc k) (omega arith) hk in omega arith
 
   -- what leads to a number that is done is done
-  done-back : {i x : ℕ} → Chain g i x → x < g .size → getD mark x 0 ≡ 1 → (i < g .size) × (getD mark i 0 ≡ 1)
+  done-back : {i x : ℕ} → Trail g i x → x < g .size → getD mark x 0 ≡ 1 → (i < g .size) × (getD mark i 0 ≡ 1)
   done-back here hx e = (hx, e)
   done-back (step hi r s) hx e = let k = done-back s hx e in (hi, P .closed _ (k .0) (k .1) _ hi r)
 
@@ -109,20 +109,20 @@ module _ (g : Graph) (mark stack bound finger : List ℕ) (len top at : ℕ) (P 
   apart : (p q : ℕ) → p < len → q < len → (p ≡ q → ⊥) → getD stack p 0 ≡ getD stack q 0 → ⊥
   apart p q hp hq d e = let a = P .on p hp .1 in let b = P .on q hq .1 in d (omega (arith, ap (λ (z : ℕ). getD mark z 0) e))
 
-  ring-with : (p q : ℕ) → p < len → base bound top ≤ p → q < len → base bound top ≤ q → (p ≡ q → ⊥) → ringed g (getD stack p 0) ≡ true
+  ring-with : (p q : ℕ) → p < len → base bound top ≤ p → q < len → base bound top ≤ q → (p ≡ q → ⊥) → isOnRing g (getD stack p 0) ≡ true
   ring-with p q hp lp hq lq d = ring-of g (getD stack p 0) (getD stack q 0) (P .on q hq .0) (apart p q hp hq d) (across q p hq hp lp) (across p q hp hq lq)
     where
-      across : (p q : ℕ) → p < len → q < len → base bound top ≤ q → Chain g (getD stack q 0) (getD stack p 0)
+      across : (p q : ℕ) → p < len → q < len → base bound top ≤ q → Trail g (getD stack q 0) (getD stack p 0)
       across p q hp hq lq = P .reach p q hp hq (λ k hk _. let u = under-top g mark stack bound finger len top at P k hk in omega arith)
 
-  ring-at : base bound top + 1 < len → (p : ℕ) → p < len → base bound top ≤ p → ringed g (getD stack p 0) ≡ true
+  ring-at : base bound top + 1 < len → (p : ℕ) → p < len → base bound top ≤ p → isOnRing g (getD stack p 0) ≡ true
   ring-at m p hp lp =
       by-eq p (base bound top) (λ e. ring-with p (base bound top + 1) hp lp m (omega arith) (λ q. omega arith))
       (λ d. ring-with p (base bound top) hp lp b-in (omega arith) d)
 
   -- a single number of a segment is on a cycle only if it is before itself
   alone : (best : ℕ) → Best g mark best → len ≤ base bound top + 1 → (i : ℕ) → i < g .size → base bound top + 2 ≤ getD mark i 0 → (getD mark i 0 ≡ 1 → ⊥)
-      → ringed g i ≡ true → best ≤ i
+      → isOnRing g i ≡ true → best ≤ i
   alone best B m i hi l d y =
       let (x, hx, s, r) = of-ring g i hi y in
       by-eq (getD mark x 0) 1
@@ -141,8 +141,8 @@ module _ (g : Graph) (mark stack bound finger : List ℕ) (len top at : ℕ) (P 
       many m = let s = c .many m in record {
         to = omega (arith, s .not-above, B .to);
         cyclic = λ l. by-eq r best
-            (λ e. subst (λ z. ringed g z ≡ true) (sym e) (B .cyclic (omega arith)))
-            (λ d. let o = s .one d in subst (λ z. ringed g z ≡ true) (sym (o .3)) (ring-at m (o .0) (o .1) (o .2)));
+            (λ e. subst (λ z. isOnRing g z ≡ true) (sym e) (B .cyclic (omega arith)))
+            (λ d. let o = s .one d in subst (λ z. isOnRing g z ≡ true) (sym (o .3)) (ring-at m (o .0) (o .1) (o .2)));
         self = λ i hi e. omega (arith, s .not-above, B .self i hi e);
         least = λ i hi e y. by-eq (getD mark i 0) 1
             (λ one. omega (arith, s .not-above, B .least i hi one y))

@@ -13,7 +13,7 @@ use Rattle.paper.proofs.Bools.{not-so}
 use Rattle.entries.specs.First.{first}
 use Rattle.entries.proofs.First.{first-found, first-none}
 use Rattle.fingers.specs.Graph.{Graph, Next, free, outside, leftOf, Started}
-use Rattle.cycles.specs.Path.{ringed, Chain, step, Walked, Best, weight, Grown, Finished, Counted, Merged, Stepped, Explored, Selfless}
+use Rattle.cycles.specs.Path.{isOnRing, Trail, step, Walked, Best, weight, Grown, Finished, Counted, Merged, Stepped, Explored, Selfless}
 use Rattle.fingers.proofs.Tests.{by-eq, by-lt, never, at-set}
 use Rattle.fingers.proofs.Left.{was-free, left-few}
 use Rattle.cycles.proofs.Chains.{self-ring}
@@ -65,7 +65,7 @@ module _ (g : Graph) (mark stack bound finger : List ℕ) (len top at : ℕ) (P 
       turned = turn g mark stack bound finger len top at P h u f l x
 
       -- the new number leads to all of the path
-      down : l < g .size → (p : ℕ) → p < len → Chain g l (getD stack p 0)
+      down : l < g .size → (p : ℕ) → p < len → Trail g l (getD stack p 0)
       down hl p hp = step hl (x .hit hl .1) (leads-all g mark stack bound finger len top at P h u p hp)
 
       pub step-back : g .size ≤ l → Stepped g mark mark stack bound finger′ top at len top (at - 1) best
@@ -188,12 +188,12 @@ best-start g r h s = record {
 
 -- when none is new, best is the lowest number on a cycle
 pub best-first : (g : Graph) (mark stack bound finger : List ℕ) (best : ℕ) → Walked g mark stack bound finger 0 0 0 → Best g mark best
-    → ((i : ℕ) → i < g .size → free mark i ≡ false) → best ≡ first (ringed g) (g .size)
+    → ((i : ℕ) → i < g .size → free mark i ≡ false) → best ≡ first (isOnRing g) (g .size)
 unfolding free
 best-first g mark stack bound finger best P B all =
     by-lt best (g .size)
-    (λ l. sym (first-found (ringed g) (g .size) best (λ k hk. none k (omega arith) hk) l (B .cyclic l)))
-    (λ l. let z = B .to in sym (first-none (ringed g) (g .size) (λ k hk. none k hk (omega arith)) ∙ omega arith))
+    (λ l. sym (first-found (isOnRing g) (g .size) best (λ k hk. none k (omega arith) hk) l (B .cyclic l)))
+    (λ l. let z = B .to in sym (first-none (isOnRing g) (g .size) (λ k hk. none k hk (omega arith)) ∙ omega arith))
   where
     done : (i : ℕ) → i < g .size → getD mark i 0 ≡ 1
     done i hi =
@@ -201,5 +201,5 @@ best-first g mark stack bound finger best P B all =
         (λ d. let t = two-up (getD mark i 0) (eqb-false (getD mark i 0) 0 (all i hi)) d in
         absurd (let o = P .off i hi (getD mark i 0 - 2) (omega arith) .0 in omega arith))
 
-    none : (k : ℕ) → k < g .size → k < best → ringed g k ≡ false
+    none : (k : ℕ) → k < g .size → k < best → isOnRing g k ≡ false
     none k hk l = not-so _ (λ e. let z = B .least k hk (done k hk) e in omega arith)

@@ -10,7 +10,7 @@ use lib.Seq.{getD-set-same, getD-set-other}
 use borrow.Author.Tests.{eq-eqb, ne-eqb, lt-ltb, le-ltb}
 use Rattle.paper.proofs.Bools.{both, and-left, and-right, not-so}
 use Rattle.fingers.specs.Graph.{Graph, Next, free, outside, leftOf}
-use Rattle.cycles.specs.Path.{Chain, here, step, Walked, Merged}
+use Rattle.cycles.specs.Path.{Trail, here, step, Walked, Merged}
 use Rattle.fingers.proofs.Tests.{by, by-eq, by-lt, never, at-set}
 use Rattle.fingers.proofs.Left.{left-shorter}
 use Rattle.cycles.proofs.Chains.{chains-join}
@@ -53,7 +53,7 @@ module _ (g : Graph) (mark stack bound finger : List ℕ) (len top at : ℕ) (P 
     only p hp e = let a = P .on p hp .1 in let b = P .on (at - 1) in-path .1 in omega (arith, ap (λ (z : ℕ). getD mark z 0) e)
 
     -- it leads to every number of the path
-    pub leads-all : (p : ℕ) → p < len → Chain g j (getD stack p 0)
+    pub leads-all : (p : ℕ) → p < len → Trail g j (getD stack p 0)
     leads-all p hp = P .reach p (at - 1) hp in-path (λ k hk _. let z = under-top k hk in omega arith)
 
     -- what lies in its segment, or above it
@@ -149,7 +149,7 @@ module _ (g : Graph) (mark stack bound finger : List ℕ) (len top at : ℕ) (P 
             (λ l. chains-join g (P .reach (getD mark f 0 - 2) q (there .0) hq (λ k hk bk. by-lt k t
             (λ kt. ab k kt (let z = P .rising k t kt fewer in omega arith))
             (λ tk. absurd (let z = w .gone k hk tk in omega arith))))
-            (subst (λ z. Chain g z (getD stack p 0)) (sym (there .1)) (step hf r (leads-all p hp))));
+            (subst (λ z. Trail g z (getD stack p 0)) (sym (there .1)) (step hf r (leads-all p hp))));
         within = P .within;
         fresh = P .fresh;
         passed = λ p hp i hi t e d. let z = P .passed p hp i hi t e d in (z .0, λ k hk. z .1 k (omega (arith, w .below)));
@@ -171,7 +171,7 @@ module _ (g : Graph) (mark stack bound finger : List ℕ) (len top at : ℕ) (P 
             by-eq t k (λ e. omega (arith, ap (λ (z : ℕ). getD bound z 0) e)) (λ d. let z = P .rising t k (omega arith) hk in omega arith)
 
   -- a new number is put on the path, a segment of its own
-  module _ (f : ℕ) (hf : f < g .size) (new : getD mark f 0 ≡ 0) (down : (p : ℕ) → p < len → Chain g f (getD stack p 0)) where
+  module _ (f : ℕ) (hf : f < g .size) (new : getD mark f 0 ≡ 0) (down : (p : ℕ) → p < len → Trail g f (getD stack p 0)) where
     abbrev mark′ : List ℕ
     mark′ = set mark f (len + 2)
 
@@ -227,9 +227,9 @@ module _ (g : Graph) (mark stack bound finger : List ℕ) (len top at : ℕ) (P 
           (λ q. let z = P .low k (omega arith) in omega (arith, old-bound k (omega arith)))
           (λ q. let z = P .rising k l hk (omega arith) in omega (arith, old-bound k (omega arith)));
       tops = omega (arith, P .tops);
-      reach = λ p r hp hr ab. at-set stack len f s-long (λ z. Chain g z (getD stack′ p 0)) r
-          (λ q. at-set stack len f s-long (λ y. Chain g f y) p (λ _. here) (λ e. down p (omega arith)))
-          (λ q. at-set stack len f s-long (λ y. Chain g (getD stack r 0) y) p
+      reach = λ p r hp hr ab. at-set stack len f s-long (λ z. Trail g z (getD stack′ p 0)) r
+          (λ q. at-set stack len f s-long (λ y. Trail g f y) p (λ _. here) (λ e. down p (omega arith)))
+          (λ q. at-set stack len f s-long (λ y. Trail g (getD stack r 0) y) p
           (λ e. absurd (let z = ab top (omega arith) (subst (λ y. y ≤ p) (sym new-bound) (omega arith)) in omega (arith, new-bound)))
           (λ e. P .reach p r (omega arith) (omega arith) (λ k hk bk. subst (λ y. y ≤ r) (old-bound k hk) (ab k (omega arith)
           (subst (λ y. y ≤ p) (sym (old-bound k hk)) bk)))));

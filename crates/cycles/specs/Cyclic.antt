@@ -9,9 +9,9 @@ use Rattle.entries.specs.First.{first}
 use Rattle.net.specs.Prior.{upTo, prior}
 
 -- number k is on a cycle
-unfoldable pub isCyclic : List ℕ → List ℕ → List ℕ → ℕ → Bool
-isCyclic rows reads chosen k = onCycle (prior rows reads chosen) (upTo (length chosen)) k
+unfoldable pub isOnCycle : List ℕ → List ℕ → List ℕ → ℕ → Bool
+isOnCycle rows reads chosen k = onCycle (prior rows reads chosen) (upTo (length chosen)) k
 
 -- the lowest number on a cycle, or how many there are
-unfoldable pub lowestCyclic : List ℕ → List ℕ → List ℕ → ℕ
-lowestCyclic rows reads chosen = first (isCyclic rows reads chosen) (length chosen)
+unfoldable pub lowestOnCycle : List ℕ → List ℕ → List ℕ → ℕ
+lowestOnCycle rows reads chosen = first (isOnCycle rows reads chosen) (length chosen)

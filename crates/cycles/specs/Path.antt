@@ -10,13 +10,13 @@ use Rattle.net.specs.Prior.{upTo}
 use Rattle.fingers.specs.Graph.{Graph, free, leftOf}
 
 -- i lies on a cycle
-unfoldable pub ringed : Graph → ℕ → Bool
-ringed g i = onCycle (g .before) (upTo (g .size)) i
+unfoldable pub isOnRing : Graph → ℕ → Bool
+isOnRing g i = onCycle (g .before) (upTo (g .size)) i
 
 -- a chain leads from i to j
-pub data Chain (g : Graph) : ℕ → ℕ → Type 0 where
-  here : {i : ℕ} → Chain g i i
-  step : {i k j : ℕ} → i < g .size → g .before i k ≡ true → Chain g k j → Chain g i j
+pub data Trail (g : Graph) : ℕ → ℕ → Type 0 where
+  here : {i : ℕ} → Trail g i i
+  step : {i k j : ℕ} → i < g .size → g .before i k ≡ true → Trail g k j → Trail g i j
 
 -- The path has len numbers, in top segments, each from its bound on; from `at` on the fingers have run out.
 pub record Walked (g : Graph) (mark stack bound finger : List ℕ) (len top at : ℕ) : Type 0 where
@@ -36,7 +36,7 @@ pub record Walked (g : Graph) (mark stack bound finger : List ℕ) (len top at :
   pub rising : (k l : ℕ) → k < l → l < top → getD bound k 0 < getD bound l 0
   pub tops : top ≤ len
   -- a number leads to each number of its own segment and of those below
-  pub reach : (p r : ℕ) → p < len → r < len → ((k : ℕ) → k < top → getD bound k 0 ≤ p → getD bound k 0 ≤ r) → Chain g (getD stack r 0) (getD stack p 0)
+  pub reach : (p r : ℕ) → p < len → r < len → ((k : ℕ) → k < top → getD bound k 0 ≤ p → getD bound k 0 ≤ r) → Trail g (getD stack r 0) (getD stack p 0)
   -- what a finger passed is done, or in the number's segment or above it
   pub within : (j : ℕ) → j < g .size → g .Finger j (getD finger j 0)
   pub fresh : (j : ℕ) → j < g .size → getD mark j 0 ≡ 0 → (i : ℕ) → i < g .size → g .passed j (getD finger j 0) i ≡ true → g .before i j ≡ false
@@ -52,9 +52,9 @@ pub record Walked (g : Graph) (mark stack bound finger : List ℕ) (len top at :
 -- best is the lowest number that is known to be on a cycle, or the size: lower than any that is before itself or is done and on one
 pub record Best (g : Graph) (mark : List ℕ) (best : ℕ) : Type 0 where
   pub to : best ≤ g .size
-  pub cyclic : best < g .size → ringed g best ≡ true
+  pub cyclic : best < g .size → isOnRing g best ≡ true
   pub self : (i : ℕ) → i < g .size → g .before i i ≡ true → best ≤ i
-  pub least : (i : ℕ) → i < g .size → getD mark i 0 ≡ 1 → ringed g i ≡ true → best ≤ i
+  pub least : (i : ℕ) → i < g .size → getD mark i 0 ≡ 1 → isOnRing g i ≡ true → best ≤ i
 
 -- how far the walk has to go: new numbers, segments, numbers whose fingers may move
 unfoldable pub weight : Graph → List ℕ → ℕ → ℕ → ℕ

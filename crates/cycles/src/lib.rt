@@ -6,10 +6,10 @@ ghost use mathlib.Core.Path.{_≡_};
 ghost use Prim.Native.Nat.{ℕ, _+_, _-_, _<_, _≤_};
 ghost use lib.ListN.{length, getD};
 ghost use Rattle.net.specs.Prior.{prior};
-ghost use Rattle.cycles.specs.Cyclic.{lowestCyclic};
+ghost use Rattle.cycles.specs.Cyclic.{lowestOnCycle};
 ghost use Rattle.fingers.specs.Ready.{Ready};
 ghost use Rattle.cycles.specs.Path.{Walked, Best, Finished, Settled, Counted, Merged, Stepped, Explored, Selfless};
-ghost use Rattle.fingers.specs.Places.{readsAny, graphOf};
+ghost use Rattle.fingers.specs.Spots.{readsAny, graphOf};
 ghost use Rattle.paper.specs.Limits.{slots};
 use entries::least;
 use entries::wide;
@@ -236,7 +236,7 @@ pub fn lowest_on_cycle(
     n: u16,
 ) -> usize
     requires { ⌜ Ready (now rows) (now reads) (now chosen) (now net) n ⌝ }
-    ensures { λ r. ⌜ r ≡ lowestCyclic (now (rows .entry)) (now (reads .entry)) (now (chosen .entry)) ⌝ }
+    ensures { λ r. ⌜ r ≡ lowestOnCycle (now (rows .entry)) (now (reads .entry)) (now (chosen .entry)) ⌝ }
 {
     let mut mark = [0u16; SLOTS];
     let mut stack = [0u16; SLOTS];

@@ -14,7 +14,7 @@ use Rattle.verdict.specs.declared.Judged.{Judged}
 use Rattle.verdict.specs.declared.Judged.the-variants as judged
 use Rattle.strategy.specs.Judge.{judgedOf}
 use Rattle.filling.specs.Filling.{Outcome, refuses, fills, unlessShort}
-use Rattle.answers.specs.Requests.{judgeOf, judgeAnswer, keyOf, marksOf, assignedOf, reported, outcomeOf, ofTransition, orderOutcome}
+use Rattle.answers.specs.Requests.{judgeOf, judgeAnswer, keyOf, keptMarks, assignedOf, reported, outcomeOf, ofTransition, orderOutcome}
 use Rattle.nocturenc.specs.Packed.{ReadRefusal, AnswerPacked, FillsPacked, packedAnswer, packedFilled}
 use Rattle.demands.specs.Allowed.{Request, OrderAnswers, TransitionAnswers, AssignmentsAnswers, refusalNumber}
 use Rattle.demands.specs.Demands.{JudgeGives, OrderGives, TransitionGives, IsAnswer, Answered, Demand1}
@@ -100,7 +100,7 @@ demand-1 = record {
   order = λ words. answered words OrderGives (λ n g. inl g) (orderOutcome words)
       (λ room l count. short-gives OrderGives (inr refl) room (map (λ i. i .0) (reported words l)))
       (OrderAnswers words) (λ lent left r q. order-allows words q);
-  transition = λ words k. answered words TransitionGives (λ n g. inl g) (ofTransition marksOf words k) (transition-gives marksOf words k)
+  transition = λ words k. answered words TransitionGives (λ n g. inl g) (ofTransition keptMarks words k) (transition-gives keptMarks words k)
       (TransitionAnswers words k) (λ lent left r q. transition-allows words k q);
   assignments = λ words k. answered words TransitionGives (λ n g. inl g) (ofTransition assignedOf words k) (transition-gives assignedOf words k)
       (AssignmentsAnswers words k) (λ lent left r q. assignments-allow words k q);

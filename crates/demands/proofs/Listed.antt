@@ -25,7 +25,7 @@ use Rattle.verdict.specs.declared.Judged.the-variants as judged
 use Rattle.marks.specs.Marks.{isMarked}
 use Rattle.strategy.specs.Judge.{judgedOf}
 use Rattle.transitions.proofs.MarkedBytes.{bytes-at}
-use Rattle.answers.specs.Requests.{judgeOf, marksOf, transitionOf}
+use Rattle.answers.specs.Requests.{judgeOf, keptMarks, transitionOf}
 use Rattle.answers.proofs.Accepted.{is-understood, count-is}
 use Rattle.answers.proofs.Keeping.{amounts}
 use Rattle.nocturenc.specs.Packed.{AnswerPacked}
@@ -57,11 +57,11 @@ module _ (words : List ℕ) (a : Accepted) (e : judgedOf words ≡ judged.Accept
   many : a .transitions ≡ transitionCount r
   many = count-is words a e ∙ sym (counts .transitions)
 
-  rows : (k : ℕ) → rowCount r ≡ length (marksOf words (a .layout) k)
+  rows : (k : ℕ) → rowCount r ≡ length (keptMarks words (a .layout) k)
   rows k = counts .rows ∙ known .size-is ∙ sym (amounts words a e .transition-is k)
 
   -- the byte of a label of the formula is 1 if transition k keeps it, else not
-  byte-says : (k : ℕ) (i : Label) → List·Memᴰ i (labels f) → isMarked (marksOf words (a .layout) k) (i .0) ≡ isKept f A (keyOf t k) i
+  byte-says : (k : ℕ) (i : Label) → List·Memᴰ i (labels f) → isMarked (keptMarks words (a .layout) k) (i .0) ≡ isKept f A (keyOf t k) i
   unfolding isMarked
   byte-says k i m = rw (known .labels-are, bytes-at (isKept f A (keyOf t k)) (a .layout .rows) (i .0) below) (go (isKept f A (keyOf t k) i))
     where
@@ -72,15 +72,15 @@ module _ (words : List ℕ) (a : Accepted) (e : judgedOf words ≡ judged.Accept
       go true = refl
       go false = refl
 
-  is-transition : (k : ℕ) → IsTransition t k (marksOf words (a .layout) k)
+  is-transition : (k : ℕ) → IsTransition t k (keptMarks words (a .layout) k)
   is-transition k = record { bytes-are = refl; slice-is = slice-alike _ (isKept f A (keyOf t k)) f (byte-says k) }
 
   pub transitions-listed : TransitionsListed words r t
   transitions-listed = record {
     listed = keys-listed f A;
     each = λ k h lent room left s q.
-        let given = transition-given words a e marksOf k (length lent) (omega (arith, many)) (omega (arith, rows k)) in
-        fills-front (transitionOf words k (length lent)) (transition-allows words k q) (marksOf words (a .layout) k) (rowCount r) (IsTransition t k) given
+        let given = transition-given words a e keptMarks k (length lent) (omega (arith, many)) (omega (arith, rows k)) in
+        fills-front (transitionOf words k (length lent)) (transition-allows words k q) (keptMarks words (a .layout) k) (rowCount r) (IsTransition t k) given
         (rows k) (is-transition k);
     differ = λ j k h g bytes b c.
         bytes-differ f A (known .well-formed .rising) j k (omega (arith, counts .transitions)) (omega (arith, counts .transitions))
@@ -90,10 +90,10 @@ module _ (words : List ℕ) (a : Accepted) (e : judgedOf words ≡ judged.Accept
         (k, omega (arith, counts .transitions), to-class A (branches f) (keyOf t k) m (sym same));
     no-more = λ k h lent left s q.
         refuses-so (transitionOf words k (length lent)) (transition-allows words k q) 15 (a .transitions) (transitionCount r)
-        (transition-absent words a e marksOf k (length lent) (omega (arith, many))) (sym many);
+        (transition-absent words a e keptMarks k (length lent) (omega (arith, many))) (sym many);
     too-short = λ k h lent room left s q.
-        refuses-so (transitionOf words k (length lent)) (transition-allows words k q) 16 (length (marksOf words (a .layout) k)) (rowCount r)
-        (transition-short words a e marksOf k (length lent) (omega (arith, many)) (omega (arith, rows k))) (rows k);
+        refuses-so (transitionOf words k (length lent)) (transition-allows words k q) 16 (length (keptMarks words (a .layout) k)) (rowCount r)
+        (transition-short words a e keptMarks k (length lent) (omega (arith, many)) (omega (arith, rows k))) (rows k);
   }
 
   -- Theorem 2, over the bytes that the requests leave

@@ -9,7 +9,7 @@ use lib.ListN.{length}
 use borrow.Author.Tests.{eq-eqb, ne-eqb}
 use Rattle.fingers.specs.declared.Found.{Found}
 use Rattle.fingers.specs.Ready.{Ready}
-use Rattle.fingers.specs.Places.{stopOf, packed, ahead, calls, placeAfter, soughtWithin, soughtFrom, Place, After}
+use Rattle.fingers.specs.Spots.{stopOf, packed, ahead, calls, spotAfter, soughtWithin, soughtFrom, IsSpot, After}
 use Rattle.fingers.proofs.Tests.{by, by-eq, by-lt}
 use Rattle.fingers.proofs.GoesOn.{ahead-is, after-number, after-read, after-star}
 
@@ -19,13 +19,13 @@ module _ (rows reads chosen : List ℕ) where
     AfterIt p = After rows reads chosen #N s r k (p .0) (p .1) (p .2)
 
     -- there is a place after each that has a star
-    goes-on : Place rows chosen #N s r k → 0 < s → AfterIt (placeAfter rows reads chosen s r k)
+    goes-on : IsSpot rows chosen #N s r k → 0 < s → AfterIt (spotAfter rows reads chosen s r k)
     goes-on P h =
         by-lt k (length chosen) (λ l. exact _ (after-number rows reads chosen net #N ready s r k P h l))
         (λ l. by-lt r (stopOf rows s) (λ m. exact _ (after-read rows reads chosen net #N ready s r k P h l m))
         (λ m. exact _ (after-star rows reads chosen net #N ready s r k P h l m)))
       where
-        exact : (p : ℕ × ℕ × ℕ) → AfterIt p → AfterIt (placeAfter rows reads chosen s r k)
+        exact : (p : ℕ × ℕ × ℕ) → AfterIt p → AfterIt (spotAfter rows reads chosen s r k)
         exact p a = subst AfterIt (a .exactly) a
 
   module _ (o : ℕ → Bool) (j : ℕ) where
@@ -50,11 +50,11 @@ module _ (rows reads chosen : List ℕ) where
       within-here zero l e = absurd (omega arith)
       within-here (suc m) l e = rw (ne-eqb s 0 (λ q. omega arith), e)
 
-      within-next : (m : ℕ) → calls rows chosen o k j ≡ false → within (suc m) (s, r, k) ≡ within m (placeAfter rows reads chosen s r k)
+      within-next : (m : ℕ) → calls rows chosen o k j ≡ false → within (suc m) (s, r, k) ≡ within m (spotAfter rows reads chosen s r k)
       unfolding soughtWithin
       within-next m e = rw (ne-eqb s 0 (λ q. omega arith), e)
 
-      within-later : (m : ℕ) → 0 < m → calls rows chosen o k j ≡ false → within m (s, r, k) ≡ within (m - 1) (placeAfter rows reads chosen s r k)
+      within-later : (m : ℕ) → 0 < m → calls rows chosen o k j ≡ false → within m (s, r, k) ≡ within (m - 1) (spotAfter rows reads chosen s r k)
       within-later zero l e = absurd (omega arith)
       within-later (suc m) l e = let d : suc m - 1 ≡ m = omega arith in rw d (within-next m e)
 
@@ -68,7 +68,7 @@ module _ (rows reads chosen : List ℕ) where
     found-here s r k h e = within-here s r k h (ahead rows chosen s r k) (some-ahead s r k h) e
 
     module _ (net : List ℕ) (#N : ℕ) (ready : Ready rows reads chosen net #N) where
-      pub enough : (m n s r k : ℕ) → Place rows chosen #N s r k → ahead rows chosen s r k ≤ m → ahead rows chosen s r k ≤ n
+      pub enough : (m n s r k : ℕ) → IsSpot rows chosen #N s r k → ahead rows chosen s r k ≤ m → ahead rows chosen s r k ≤ n
           → within m (s, r, k) ≡ within n (s, r, k)
       enough zero n s r k P a b =
           by-eq s 0 (λ e. within-none s r k e zero ∙ sym (within-none s r k e n)) (λ d. absurd (let z = some-ahead s r k (omega arith) in omega arith))
@@ -77,7 +77,7 @@ module _ (rows reads chosen : List ℕ) where
           (λ d. let h : 0 < s = omega arith in
           let z = some-ahead s r k h in
           by (calls rows chosen o k j) (λ e. within-here s r k h (suc m) (omega arith) e ∙ sym (within-here s r k h n (omega arith) e))
-          (λ e. let q = placeAfter rows reads chosen s r k in
+          (λ e. let q = spotAfter rows reads chosen s r k in
           let next = goes-on net #N ready s r k P h in
           let less = next .less in
           within-next s r k h m e

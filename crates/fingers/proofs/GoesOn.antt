@@ -18,7 +18,7 @@ use Rattle.entries.proofs.First.{first-le, first-at, first-below}
 use Rattle.net.specs.Prior.{starReads, around, guardOf, variableOf}
 use Rattle.net.specs.Net.{firstWith, guardsFrom, nextsFrom, firstsFrom}
 use Rattle.fingers.specs.Ready.{Ready}
-use Rattle.fingers.specs.Places.{stopOf, readsAny, packed, pending, ahead, placeAfter, Place, After}
+use Rattle.fingers.specs.Spots.{stopOf, readsAny, packed, pending, ahead, spotAfter, IsSpot, After}
 use Rattle.fingers.proofs.Tests.{by-eq, by-lt, never}
 use Rattle.fingers.proofs.Guards.{Innermost, no-guard, the-guard}
 
@@ -126,14 +126,14 @@ module _ (rows reads chosen : List ℕ) where
       out (readLater a) = or-left (starReads rows reads s (variableOf rows chosen i)) _ (star-reads rows reads s (variableOf rows chosen i) ∙ a)
       out (readAround a) = or-right (starReads rows reads s (variableOf rows chosen i)) _ a
 
-  module _ (net : List ℕ) (#N : ℕ) (ready : Ready rows reads chosen net #N) (s r k : ℕ) (P : Place rows chosen #N s r k) (h : 0 < s) where
+  module _ (net : List ℕ) (#N : ℕ) (ready : Ready rows reads chosen net #N) (s r k : ℕ) (P : IsSpot rows chosen #N s r k) (h : 0 < s) where
     -- the reads of a star are there
     pub stop-in : stopOf rows s ≤ length reads
     stop-in = ready .read s (P .star) (P .kind h)
 
     -- k < length chosen: the next number of its variable
     pub after-number : k < length chosen → After rows reads chosen #N s r k s r (getD net (nextsFrom + k) 0)
-    unfolding placeAfter
+    unfolding spotAfter
     after-number l = rw (ready .netted .nexts k l) (record {
       place = record { star = P .star; kind = P .kind; read = P .read; number = next-in .1 };
       old = λ i e. joins s r k i h (old i (parts s r next i e));
@@ -166,7 +166,7 @@ module _ (rows reads chosen : List ℕ) where
 
     -- all numbers of a read are passed: the next read, and the first number of its variable
     pub after-read : length chosen ≤ k → r < stopOf rows s → After rows reads chosen #N s r k s (r + 1) (getD net (firstsFrom + getD reads r 0) 0)
-    unfolding placeAfter
+    unfolding spotAfter
     after-read l m = rw (ready .netted .firsts v (ready .variables r (let z = stop-in in omega arith))) (record {
       place = record {
         star = P .star;
@@ -209,8 +209,8 @@ module _ (rows reads chosen : List ℕ) where
         new i hi (readAround a) = readAround a
 
     -- all reads of a star are passed: the star around it
-    past-star : length chosen ≤ k → stopOf rows s ≤ r → (guardOf rows s, fromOf rows (guardOf rows s), length chosen) ≡ placeAfter rows reads chosen s r k
-    unfolding placeAfter
+    past-star : length chosen ≤ k → stopOf rows s ≤ r → (guardOf rows s, fromOf rows (guardOf rows s), length chosen) ≡ spotAfter rows reads chosen s r k
+    unfolding spotAfter
     past-star l m = rw (le-ltb k (length chosen) l, le-ltb r (stopOf rows s) m)
 
     pub after-star : length chosen ≤ k → stopOf rows s ≤ r

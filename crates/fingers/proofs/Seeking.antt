@@ -14,7 +14,7 @@ use Rattle.rows.specs.Rows.{kindOf, fromOf}
 use Rattle.net.specs.Prior.{isFrozen, variableOf, prior}
 use Rattle.fingers.specs.Ready.{Ready}
 use Rattle.fingers.specs.Graph.{Graph, Next, free, outside, Started}
-use Rattle.fingers.specs.Places.{packed, calls, startOf, AtStart, pending, After, PlaceOf, Sought, passedOf, fingerOf, graphOf, Answered}
+use Rattle.fingers.specs.Spots.{packed, calls, startOf, AtStart, pending, After, SpotOf, Sought, passedOf, fingerOf, graphOf, Answered}
 use Rattle.fingers.proofs.Tests.{by, by-eq, never, at-set}
 use Rattle.fingers.proofs.Guards.{frozen-is}
 use Rattle.fingers.proofs.GoesOn.{chained, joins, some-star, opened}
@@ -44,7 +44,7 @@ unpacked s r k a b = (omega arith, omega arith, omega arith)
 module _ (rows reads chosen : List ℕ) (#N : ℕ) where
   -- the search moves on, past a number that does not call
   module _ (o : ℕ → Bool) (j s₀ r₀ k₀ : ℕ) where
-    pub sought-none : PlaceOf rows reads chosen #N j s₀ r₀ k₀ → Sought rows reads chosen #N o j s₀ r₀ k₀ s₀ r₀ k₀
+    pub sought-none : SpotOf rows reads chosen #N j s₀ r₀ k₀ → Sought rows reads chosen #N o j s₀ r₀ k₀ s₀ r₀ k₀
     sought-none P = record { at = P; none = λ i hi e f. never _ e f; onto = refl }
 
     not-prior : (k : ℕ) → k < length chosen → calls rows chosen o k j ≡ false → o k ≡ true → prior rows reads chosen k j ≡ false

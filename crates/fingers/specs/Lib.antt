@@ -1,3 +1,3 @@
 pub mod Ready
 pub mod Graph
-pub mod Places
+pub mod Spots

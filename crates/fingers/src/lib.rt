@@ -4,11 +4,11 @@
 ghost use mathlib.Core.Path.{_≡_};
 ghost use Prim.Native.Nat.{_+_, _*_, _/_, _%_, _<_, _≤_};
 ghost use lib.ListN.{length, getD};
-ghost use Rattle.net.specs.Prior.{together};
+ghost use Rattle.net.specs.Prior.{shareBranchIn};
 ghost use Rattle.net.specs.Net.{Chosen, Net};
 ghost use Rattle.fingers.specs.Ready.{Ready};
 ghost use Rattle.fingers.specs.Graph.{outside};
-ghost use Rattle.fingers.specs.Places.{stopOf, packed, calls, AtStart, Apart, Looked, Seekable, Place, After, Answered, graphOf};
+ghost use Rattle.fingers.specs.Spots.{stopOf, packed, calls, AtStart, Apart, Looked, Seekable, IsSpot, After, Answered, graphOf};
 ghost use Rattle.paper.specs.Limits.{mostRows, slots};
 use entries::wide;
 use net::NET_LENGTH;
@@ -60,7 +60,7 @@ fn onward(
     n: u16,
     p: Spot,
 ) -> Spot
-    requires { ⌜ Ready (now rows) (now reads) (now chosen) (now net) n × Place (now rows) (now chosen) n (p .star .0) (p .read) (p .next)
+    requires { ⌜ Ready (now rows) (now reads) (now chosen) (now net) n × IsSpot (now rows) (now chosen) n (p .star .0) (p .read) (p .next)
         × (0 < p .star .0) ⌝ }
     ensures { λ q. ⌜ After (now (rows .entry)) (now (reads .entry)) (now (chosen .entry)) n (p .star .0) (p .read) (p .next) (q .star .0)
         (q .read) (q .next) ⌝ }
@@ -115,7 +115,7 @@ fn look_at(
     requires { ⌜ Chosen (now rows) (now chosen) n × Net (now rows) (now chosen) n (now net) × (k < length (now chosen))
         × (j < length (now chosen)) × Apart (now rows) (now chosen) j (seen .from) (seen .to) ⌝ }
     ensures { λ r. ⌜ Looked (now (rows .entry))
-        (now (chosen .entry)) (together (now (rows .entry)) (getD (now (chosen .entry)) k 0) (getD (now (chosen .entry)) j 0)) j (r .from) (r .to)
+        (now (chosen .entry)) (shareBranchIn (now (rows .entry)) (getD (now (chosen .entry)) k 0) (getD (now (chosen .entry)) j 0)) j (r .from) (r .to)
         (r .hit) ⌝ }
 {
     let i = Label(chosen[k]);

@@ -12,10 +12,10 @@ use lib.Dec.{ltb}
 use borrow.Author.Tests.{lt-ltb}
 use Rattle.paper.specs.declared.Label.{Label}
 use Rattle.paper.specs.Formula.{ℓ, has}
-use Rattle.paper.specs.Structure.Reading.{Reading}
+use Rattle.paper.specs.Structure.Fold.{Fold}
 use Rattle.paper.specs.Structure.KeyCount.{KeyCount, number, leafKeys as leafCount, unitKeys as unitCount}
-use Rattle.paper.specs.Structure.KeyCount.{joinKeys as joinCounts, keyReading, keyCountOf, numberOf}
-use Rattle.paper.proofs.Readings.{carried, carried-everywhere}
+use Rattle.paper.specs.Structure.KeyCount.{joinKeys as joinCounts, keyFold, keyCountOf, numberOf}
+use Rattle.paper.proofs.Folds.{carried, carried-everywhere}
 use Rattle.paper.proofs.Bools.{pick}
 use Rattle.rows.specs.Formula.{formulaAt}
 use Rattle.rows.specs.Walk.{Walkable, skeletonAt, valueAt}
@@ -23,7 +23,7 @@ use Rattle.rows.proofs.Meets.{lt-or-le}
 use Rattle.rows.proofs.Walks.{value-read}
 use Rattle.keys.specs.declared.Distinct.{Distinct}
 use Rattle.marks.specs.Marks.{isMarked, Marked}
-use Rattle.keys.specs.Keys.{limit, keysOf, total, leafKeys, joinKeys, keysReading, keysAt}
+use Rattle.keys.specs.Keys.{limit, keysOf, total, leafKeys, joinKeys, keysFold, keysAt}
 use Rattle.keys.proofs.LeafLabels.{leaves-hold}
 
 -- n held at the limit is h: n itself, or the limit where n is above it
@@ -106,8 +106,8 @@ held-past c =
     (λ top. lt-ltb 65535 (total (held c)) (omega arith) ∙ sym (lt-ltb 65535 (number c) (omega arith)))
 
 -- The count of keys that marks choose, without a limit.
-abbrev pub countReading : List ℕ → Reading KeyCount
-countReading marks = record {
+abbrev pub countFold : List ℕ → Fold KeyCount
+countFold marks = record {
   atFALSE = λ l. leafCount (isMarked marks (l .0));
   atTest = λ l. leafCount (isMarked marks (l .0));
   atCandidate = λ l v. leafCount (isMarked marks (l .0));
@@ -116,20 +116,20 @@ countReading marks = record {
 }
 
 abbrev pub countAt : List ℕ → List ℕ → ℕ → ℕ → KeyCount
-countAt rows marks left i = valueAt (countReading marks) rows left i
+countAt rows marks left i = valueAt (countFold marks) rows left i
 
 module _ (rows marks : List ℕ) (left i : ℕ) where
   pub keys-held : keysAt rows marks left i ≡ held (countAt rows marks left i)
   unfolding valueAt
-  keys-held = sym (carried-everywhere (countReading marks) (keysReading marks) held held-units held-joins
+  keys-held = sym (carried-everywhere (countFold marks) (keysFold marks) held held-units held-joins
       (λ l. held-leaves (isMarked marks (l .0))) (λ l. held-leaves (isMarked marks (l .0))) (λ l v. held-leaves (isMarked marks (l .0)))
       (skeletonAt rows left i))
 
   -- where the marks are those of the chosen labels, it is the paper's count
   module _ (A : List Label) (marked : Marked A marks) {#N : ℕ} (w : Walkable rows #N i) (reads : List ℕ) where
     count-chosen : countAt rows marks left i ≡ keyCountOf A (formulaAt rows reads left i)
-    count-chosen = sym (value-read (countReading marks) rows reads left i)
-        ∙ carried (countReading marks) (keyReading A) (λ c. c) (λ c. refl) (λ c a b. refl) (formulaAt rows reads left i)
+    count-chosen = sym (value-read (countFold marks) rows reads left i)
+        ∙ carried (countFold marks) (keyFold A) (λ c. c) (λ c. refl) (λ c a b. refl) (formulaAt rows reads left i)
         (leaves-hold rows reads (λ l. leafCount (isMarked marks (l .0)) ≡ leafCount (has A l)) chosen left i w)
       where
         chosen : (l : ℕ) → l < #N → leafCount (isMarked marks l) ≡ leafCount (has A (ℓ l))

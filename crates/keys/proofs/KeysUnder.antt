@@ -15,7 +15,7 @@ use Rattle.rows.specs.Rows.{kindOf, endOf, formOf}
 use Rattle.rows.specs.Walk.{expressionsAt, firstAt, Walkable, joinedFrom}
 use Rattle.rows.proofs.Walks.{value-join}
 use Rattle.keys.specs.Keys.{total, keysAt}
-use Rattle.keys.proofs.KeyNumbers.{held-within, held-exact, countReading, countAt, keys-held}
+use Rattle.keys.proofs.KeyNumbers.{held-within, held-exact, countFold, countAt, keys-held}
 
 abbrev pub productOf : List ℕ → ℕ
 productOf [] = 1
@@ -79,7 +79,7 @@ or-none false b e = refl
 
 module _ (rows marks : List ℕ) (left : ℕ) where
   abbrev joinedCount : Bool → KeyCount → ℕ → ℕ → KeyCount
-  joinedCount c a m i = joinedFrom (countReading marks) rows left c a m i
+  joinedCount c a m i = joinedFrom (countFold marks) rows left c a m i
 
   abbrev countsFrom : ℕ → ℕ → List ℕ
   countsFrom m i = numbersFrom (λ j. number (countAt rows marks left j)) rows m i
@@ -146,7 +146,7 @@ module _ {rows : List ℕ} {#N i : ℕ} (marks : List ℕ) (left : ℕ) (w : Wal
 
   joined-here : (c : Bool) → eqb (kindOf rows i) 3 ≡ c
       → countAt rows marks left i ≡ joinedCount rows marks (left - 1) c (unitCount c) (expressionsAt rows i) (firstAt rows i)
-  joined-here c e = rw (← e) (value-join (countReading marks) rows left i deep (w .shaped .joined i (w .here) join))
+  joined-here c e = rw (← e) (value-join (countFold marks) rows left i deep (w .shaped .joined i (w .here) join))
 
   -- A conjunction: its keys are one of each, and so each number is within the limit.
   module _ (kind : kindOf rows i ≡ 3) (some : 0 < total (keysAt rows marks left i)) where

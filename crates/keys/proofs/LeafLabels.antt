@@ -6,7 +6,7 @@ use native.Mathlib.Numerals.{sub-one}
 use mathlib.Core.List.{List}
 use Rattle.paper.specs.declared.Label.{Label}
 use Rattle.paper.specs.Formula.{ℓ, Formula}
-use Rattle.paper.proofs.Readings.{AtLeaves, AtLeavesOf}
+use Rattle.paper.proofs.Folds.{AtLeaves, AtLeavesOf}
 use Rattle.rows.specs.Rows.{kindOf, argOf, endOf, formOf}
 use Rattle.rows.specs.Formula.{starAt, childrenAt, nodeAt, formulaAt}
 use Rattle.rows.specs.Walk.{expressions, firstUnder, Walkable}

@@ -2,7 +2,7 @@
 use Prim.Native.Nat.{ℕ, _+_, _*_, min}
 use mathlib.Core.Bool.{Bool, true, false, cond, _&&_, _||_}
 use mathlib.Core.List.{List}
-use Rattle.paper.specs.Structure.Reading.{Reading}
+use Rattle.paper.specs.Structure.Fold.{Fold}
 use Rattle.rows.specs.Walk.{valueAt}
 use Rattle.keys.specs.declared.Distinct.{Distinct}
 use Rattle.marks.specs.Marks.{isMarked}
@@ -24,8 +24,8 @@ unfoldable pub joinKeys : Bool → Distinct → Distinct → Distinct
 joinKeys true a b = keysOf (min limit (a .more * total b + cond (a .empty) (b .more) 0)) (a .empty && b .empty)
 joinKeys false a b = keysOf (min limit (a .more + b .more)) (a .empty || b .empty)
 
-abbrev pub keysReading : List ℕ → Reading Distinct
-keysReading marks = record {
+abbrev pub keysFold : List ℕ → Fold Distinct
+keysFold marks = record {
   atFALSE = λ l. leafKeys (isMarked marks (l .0));
   atTest = λ l. leafKeys (isMarked marks (l .0));
   atCandidate = λ l v. leafKeys (isMarked marks (l .0));
@@ -35,4 +35,4 @@ keysReading marks = record {
 
 -- the keys of the formula that rows write
 abbrev pub keysAt : List ℕ → List ℕ → ℕ → ℕ → Distinct
-keysAt rows marks left i = valueAt (keysReading marks) rows left i
+keysAt rows marks left i = valueAt (keysFold marks) rows left i

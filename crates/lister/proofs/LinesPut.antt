@@ -23,7 +23,7 @@ use Rattle.verdict.specs.declared.Accepted.{Accepted}
 use Rattle.strategy.specs.Judge.{proposalIn}
 use Rattle.transitions.specs.Kept.{Keepable, MarkedKept}
 use Rattle.transitions.specs.Assigned.{keptOf, Fillable}
-use Rattle.answers.specs.Requests.{keyOf, marksOf, assignedOf, AcceptedAs}
+use Rattle.answers.specs.Requests.{keyOf, keptMarks, assignedOf, AcceptedAs}
 use Rattle.answers.proofs.Accepted.{is-understood, few-transitions}
 use Rattle.answers.proofs.Keeping.{rows-lent, chosen-lent, rows-fit, keepable, bytes-left, front-is}
 use Rattle.answers.proofs.Keeping.{front-there, front-length, fillable, assigned-there, assigned-front, amounts}
@@ -141,7 +141,7 @@ module _ {words : List ℕ} {a : Accepted} {marks : List ℕ} {own : Distinct} {
 
   -- once the walk is done
   module _ {lent kept : List ℕ} (m : MarkedKept lentRows marks (l .rows) k lent kept) where
-    stands : kept ≡ marksOf words l k ++ drop (length (marksOf words l k)) lent
+    stands : kept ≡ keptMarks words l k ++ drop (length (keptMarks words l k)) lent
     stands = bytes-left words a e k h marked-lent m
 
     pub rows-there : l .rows ≤ length kept

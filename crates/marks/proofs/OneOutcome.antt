@@ -10,7 +10,7 @@ use borrow.Author.Tests.{eqb-true, eqb-false}
 use Rattle.paper.specs.declared.Label.{Label}
 use Rattle.paper.specs.Outcome.{OneOutcome}
 use Rattle.paper.proofs.Outcome.{by-equation, by-entries}
-use Rattle.marks.specs.Marks.{isMarked, MarksOf}
+use Rattle.marks.specs.Marks.{isMarked, MarkedExactly}
 use Rattle.marks.proofs as marks
 
 -- bytes that are 0 or 1 and say the same are the same
@@ -21,7 +21,7 @@ same-bit a b low low′ e = by (eqb b 1) refl
     by true t = let p = eqb-true a 1 (e ∙ t) in let q = eqb-true b 1 t in omega arith
     by false t = let p = eqb-false a 1 (e ∙ t) in let q = eqb-false b 1 t in omega arith
 
-one-marking : (A : List Label) (xs ys : List ℕ) → MarksOf A xs → MarksOf A ys → xs ≡ ys
+one-marking : (A : List Label) (xs ys : List ℕ) → MarkedExactly A xs → MarkedExactly A ys → xs ≡ ys
 unfolding isMarked
 one-marking A xs ys p q =
     let m = p .marked in

@@ -31,6 +31,6 @@ abbrev pub AllBelow : ℕ → List ℕ → Type 0
 AllBelow limit ws = (k : ℕ) → k < length ws → getD ws k 0 < limit
 
 -- what the marks of chosen labels are, byte by byte: 1 for a label that is marked, else 0
-pub record MarksOf (A : List Label) (marks : List ℕ) : Type 0 where
+pub record MarkedExactly (A : List Label) (marks : List ℕ) : Type 0 where
   pub marked : Marked A marks
   pub bits : AllBelow 2 marks

@@ -3,7 +3,7 @@ ghost use mathlib.Core.Path.{_≡_};
 ghost use Prim.Native.Nat.{_<_};
 ghost use mathlib.Core.List.{map};
 ghost use Rattle.paper.specs.Formula.{ℓ};
-ghost use Rattle.marks.specs.Marks.{isMarked, MarksOf, AllBelow};
+ghost use Rattle.marks.specs.Marks.{isMarked, MarkedExactly, AllBelow};
 ghost use Rattle.paper.specs.Limits.{mostRows};
 use paper::Label;
 use paper::limits::MOST_ROWS;
@@ -20,7 +20,7 @@ pub fn is_marked(marks: &[u8; MOST_ROWS], at: Label) -> bool
 // The marks of the chosen labels.
 pub fn marks_of(chosen: &[u16]) -> [u8; MOST_ROWS]
     requires { ⌜ AllBelow mostRows (now chosen) ⌝ }
-    ensures { λ r. ⌜ MarksOf (map ℓ (now (chosen .entry))) r ⌝ }
+    ensures { λ r. ⌜ MarkedExactly (map ℓ (now (chosen .entry))) r ⌝ }
 {
     let mut marks = [0u8; MOST_ROWS];
     let mut k = 0;

@@ -16,7 +16,7 @@ use Rattle.entries.specs.First.{first}
 use Rattle.rows.specs.Rows.{argOf}
 use Rattle.entries.proofs.First.{first-found, first-none, first-same}
 use Rattle.rows.proofs.Meets.{lt-or-le}
-use Rattle.net.specs.Net.{guardsFrom, nextsFrom, firstsFrom, netLength, Parents, Guards, Net, Only, ChainWord, firstWith}
+use Rattle.net.specs.Net.{guardsFrom, nextsFrom, firstsFrom, netLength, Parents, Guards, Net, Only, IndexWord, firstWith}
 use Rattle.net.proofs.Notes.{parents-kept, guards-kept}
 
 -- a search that passed one number goes on with the rest
@@ -28,7 +28,7 @@ passed-one bad n e = rw e
 as-taken : (old net : List ℕ) (i : ℕ) → i < firstsFrom → take firstsFrom net ≡ take firstsFrom old → getD net i 0 ≡ getD old i 0
 as-taken old net i h same = sym (getD-take firstsFrom net i 0 h) ∙ ap (λ l. getD l i 0) same ∙ getD-take firstsFrom old i 0 h
 
-pub only-before : {old net : List ℕ} (#S : ℕ) → take firstsFrom net ≡ take firstsFrom old → Only (ChainWord #S) old net
+pub only-before : {old net : List ℕ} (#S : ℕ) → take firstsFrom net ≡ take firstsFrom old → Only (IndexWord #S) old net
 only-before {old} {net} #S same = record {
   stays = λ i h. pick (lt-or-le i firstsFrom) (λ l. as-taken old net i l same) (λ l. absurd (h (inr l)));
 }

@@ -13,23 +13,23 @@ use Rattle.paper.proofs.Bools.{and-left, and-right, both, not-so, or-left, or-r
 use Rattle.rows.specs.Rows.{kindOf, endOf}
 use Rattle.entries.proofs.First.{first-found, first-none}
 use Rattle.rows.proofs.Meets.{lt-or-le}
-use Rattle.net.specs.Prior.{isUnder, overBoth, together}
+use Rattle.net.specs.Prior.{isUnder, overBoth, shareBranchIn}
 use Rattle.net.specs.Net.{Tree, Parents, Cleared, towards, clearTo}
 use Rattle.net.proofs.Last.{last-is}
 use Rattle.net.proofs.Climb.{under, under-from, under-to, under-not, Parent, parent-by}
 
 -- where two candidates share a branch, or not
-joined-to : (rows : List ℕ) (i j : ℕ) → together rows i j ≡ true → i ≡ clearTo rows i j
+joined-to : (rows : List ℕ) (i j : ℕ) → shareBranchIn rows i j ≡ true → i ≡ clearTo rows i j
 unfolding clearTo
 joined-to rows i j e = rw e
 
-apart-to : (rows : List ℕ) (i j top below : ℕ) → together rows i j ≡ false → overBoth rows i j ≡ top → towards rows top j ≡ below
+apart-to : (rows : List ℕ) (i j top below : ℕ) → shareBranchIn rows i j ≡ false → overBoth rows i j ≡ top → towards rows top j ≡ below
     → clearTo rows i j ≡ cond (ltb i below) below (endOf rows top)
 unfolding clearTo
 apart-to rows i j top below e o t = rw (e, o, t)
 
-same-together : (rows : List ℕ) (i j : ℕ) → i ≡ j → together rows i j ≡ true
-unfolding together
+same-together : (rows : List ℕ) (i j : ℕ) → i ≡ j → shareBranchIn rows i j ≡ true
+unfolding shareBranchIn
 same-together rows i j e = or-left (eqb i j) _ (eq-eqb i j e)
 
 pub cleared-same : (rows : List ℕ) (i j : ℕ) → i ≡ j → Cleared rows i j i
@@ -138,12 +138,12 @@ module _ {rows : List ℕ} {#N i j : ℕ} (q : Pair rows #N i j) where
             (λ m. let z = ends-inside (q .tree) below a (omega arith) m (omega arith) in let w = b .misses (omega arith) in omega arith)
 
     -- what the kind of row top tells of it
-    shares : (x : ℕ) → Beside rows below top x → kindOf rows top ≡ 3 → together rows x j ≡ true
-    unfolding together
+    shares : (x : ℕ) → Beside rows below top x → kindOf rows top ≡ 3 → shareBranchIn rows x j ≡ true
+    unfolding shareBranchIn
     shares x b k = or-right (eqb x j) _ (eq-eqb _ 3 (ap (kindOf rows) (last-over x b) ∙ k))
 
-    shares-none : (x : ℕ) → Beside rows below top x → (kindOf rows top ≡ 3 → ⊥) → together rows x j ≡ false
-    unfolding together
+    shares-none : (x : ℕ) → Beside rows below top x → (kindOf rows top ≡ 3 → ⊥) → shareBranchIn rows x j ≡ false
+    unfolding shareBranchIn
     shares-none x b k =
         rw (ne-eqb x j distinct, ne-eqb (kindOf rows (overBoth rows x j)) 3 (λ e. k (sym (ap (kindOf rows) (last-over x b)) ∙ e)))
       where

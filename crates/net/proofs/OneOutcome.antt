@@ -10,7 +10,7 @@ use Rattle.paper.specs.Outcome.{OneOutcome}
 use Rattle.paper.proofs.Bools.{pick}
 use Rattle.paper.proofs.Outcome.{by-equation, by-entries}
 use Rattle.rows.proofs.Meets.{lt-or-le}
-use Rattle.net.specs.Net.{guardsFrom, nextsFrom, firstsFrom, netLength, Chosen, Noted, ParentWord, GuardWord, ChainWord}
+use Rattle.net.specs.Net.{guardsFrom, nextsFrom, firstsFrom, netLength, Chosen, Noted, ParentWord, GuardWord, IndexWord}
 use Rattle.net.proofs as net
 
 -- a word of a part, by its place there
@@ -21,7 +21,7 @@ module _ (xs ys : List ℕ) (from : ℕ) {i : ℕ} (h : from ≤ i) where
 module _ (rows chosen : List ℕ) (#N : ℕ) (made : Chosen rows chosen #N) (old : List ℕ) where
   module _ {xs ys : List ℕ} (p : Noted rows chosen #N old xs) (q : Noted rows chosen #N old ys) where
     -- a word that the net does not give
-    stay : (i : ℕ) → (ParentWord #N i ⊎ (GuardWord #N i ⊎ ChainWord (length chosen) i) → ⊥) → getD xs i 0 ≡ getD ys i 0
+    stay : (i : ℕ) → (ParentWord #N i ⊎ (GuardWord #N i ⊎ IndexWord (length chosen) i) → ⊥) → getD xs i 0 ≡ getD ys i 0
     stay i h = p .others .stays i h ∙ sym (q .others .stays i h)
 
     few : #N ≤ 4096
@@ -33,13 +33,13 @@ module _ (rows chosen : List ℕ) (#N : ℕ) (made : Chosen rows chosen #N) (old
         given : 0 < i → i < #N → getD xs i 0 ≡ getD ys i 0
         given a b = p .noted .parents .parents i a b ∙ sym (q .noted .parents .parents i a b)
 
-        beyond : #N ≤ i → ParentWord #N i ⊎ (GuardWord #N i ⊎ ChainWord (length chosen) i) → ⊥
+        beyond : #N ≤ i → ParentWord #N i ⊎ (GuardWord #N i ⊎ IndexWord (length chosen) i) → ⊥
         beyond past (inl g) = omega (arith, g .1)
         beyond past (inr (inl g)) = omega (arith, g .0)
         beyond past (inr (inr (inl g))) = omega (arith, g .0)
         beyond past (inr (inr (inr g))) = omega (arith, g)
 
-        no-row : i ≤ 0 → ParentWord #N i ⊎ (GuardWord #N i ⊎ ChainWord (length chosen) i) → ⊥
+        no-row : i ≤ 0 → ParentWord #N i ⊎ (GuardWord #N i ⊎ IndexWord (length chosen) i) → ⊥
         no-row none (inl g) = omega (arith, g .0)
         no-row none (inr (inl g)) = omega (arith, g .0)
         no-row none (inr (inr (inl g))) = omega (arith, g .0)
@@ -51,7 +51,7 @@ module _ (rows chosen : List ℕ) (#N : ℕ) (made : Chosen rows chosen #N) (old
         given : i < guardsFrom + #N → (k : ℕ) → i ≡ guardsFrom + k → getD xs (guardsFrom + k) 0 ≡ getD ys (guardsFrom + k) 0
         given h k e = p .noted .guards .guards k (omega arith) ∙ sym (q .noted .guards .guards k (omega arith))
 
-        beyond : guardsFrom + #N ≤ i → guardsFrom < i → ParentWord #N i ⊎ (GuardWord #N i ⊎ ChainWord (length chosen) i) → ⊥
+        beyond : guardsFrom + #N ≤ i → guardsFrom < i → ParentWord #N i ⊎ (GuardWord #N i ⊎ IndexWord (length chosen) i) → ⊥
         beyond past more (inl g) = let f = few in omega (arith, g .1)
         beyond past more (inr (inl g)) = omega (arith, g .1)
         beyond past more (inr (inr (inl g))) = omega (arith, g .0)
@@ -69,7 +69,7 @@ module _ (rows chosen : List ℕ) (#N : ℕ) (made : Chosen rows chosen #N) (old
         given : i < nextsFrom + length chosen → (k : ℕ) → i ≡ nextsFrom + k → getD xs (nextsFrom + k) 0 ≡ getD ys (nextsFrom + k) 0
         given h k e = p .noted .nexts k (omega arith) ∙ sym (q .noted .nexts k (omega arith))
 
-        beyond : nextsFrom + length chosen ≤ i → ParentWord #N i ⊎ (GuardWord #N i ⊎ ChainWord (length chosen) i) → ⊥
+        beyond : nextsFrom + length chosen ≤ i → ParentWord #N i ⊎ (GuardWord #N i ⊎ IndexWord (length chosen) i) → ⊥
         beyond past (inl g) = let f = few in omega (arith, g .1)
         beyond past (inr (inl g)) = let f = few in omega (arith, g .1)
         beyond past (inr (inr (inl g))) = omega (arith, g .1)

@@ -1,5 +1,5 @@
 -- Two candidates share a branch exactly if they are one, or the last row over both is a conjunction (specs/Prior.antt,
--- `together`). By induction over the formula: where both stand in one child of a join, the last row over both stands there
+-- `shareBranchIn`). By induction over the formula: where both stand in one child of a join, the last row over both stands there
 -- too, and they share a branch as they do in that child; where they stand in two, it is the join's own row, and they share a
 -- branch exactly if the join is a conjunction, as every candidate is on some branch.
 use Prim.Native.Nat.{ℕ, _+_, _<_, _≤_}
@@ -16,7 +16,7 @@ use Rattle.paper.specs.Lists.{anyOf}
 use Rattle.paper.specs.Formula.{ℓ, has, labels, labelsOf, Star, Formula, Formulas, FALSE, test, candidate, conjunction, disjunction, exists, IF, only, _⨾_}
 use Rattle.paper.specs.Branch.{branches, ofEach, ofAny}
 use Rattle.paper.specs.Before.{shareBranch}
-use Rattle.paper.specs.Structure.Share.{holdsAll, someHolds, eachHolds, anyHolds}
+use Rattle.paper.specs.Structure.Share.{holdsAll, someBranchHolds, eachHolds, anyHolds}
 use Rattle.paper.proofs.Bools.{both, and-left, not-so, pick}
 use Rattle.paper.proofs.Lists.{to-any, of-any, of-all}
 use Rattle.paper.proofs.Labels.{sub-has, branch-sub, each-sub, any-sub}
@@ -26,12 +26,12 @@ use Rattle.rows.specs.Rows.{kindOf, endOf}
 use Rattle.written.specs.Written.{size, labelsOn}
 use Rattle.rows.proofs.Meets.{lt-or-le}
 use Rattle.written.proofs.Writes.{RowIs, StarIs, Writes, WritesAll}
-use Rattle.net.specs.Prior.{isUnder, overBoth, together}
+use Rattle.net.specs.Prior.{isUnder, overBoth, shareBranchIn}
 use Rattle.net.proofs.UpTo.{last-is}
 use Rattle.net.proofs.Spans.{labels-between, labels-count, labels-count-all, ends-inside, Among, past-row, past-star, no-candidate, own-row, either-part}
 
 -- every formula has a branch, which holds all of no labels
-some-nothing : (f : Formula) → someHolds f [] ≡ true
+some-nothing : (f : Formula) → someBranchHolds f [] ≡ true
 some-nothing f = some-holds f [] ∙ to-any (λ b. holdsAll b []) (a-branch f .1) refl
 
 each-nothing : (fs : Formulas) → eachHolds fs [] ≡ true
@@ -112,7 +112,7 @@ lacking bs ls S x i part count outside m = not-so _ λ h.
 
 module _ (rows reads : List ℕ) where
   module _ (S : List Label) (x : ℕ) (m : List·Memᴰ (ℓ x) S) where
-    some-lacks : (f : Formula) (i t : ℕ) → Writes rows reads f i t → i + size f ≤ x → someHolds f S ≡ false
+    some-lacks : (f : Formula) (i t : ℕ) → Writes rows reads f i t → i + size f ≤ x → someBranchHolds f S ≡ false
     some-lacks f i t w h = some-holds f S ∙ lacking (branches f) (labels f) S x i (branch-sub f) (labels-count rows reads f i t w) (λ c d. omega arith) m
 
     each-lacks : (fs : Formulas) (i t : ℕ) → WritesAll rows reads fs i t → x < i → eachHolds fs S ≡ false
@@ -130,13 +130,13 @@ module _ (rows reads : List ℕ) where
   Held x fs = (eachHolds fs (ℓ x ∷ []) ≡ true) × (anyHolds fs (ℓ x ∷ []) ≡ true)
 
   either-held : {x i : ℕ} (f : Formula) (fs : Formulas) → Among rows x i (length (labels f ++ labelsOf fs))
-      → (Among rows x i (size f) → someHolds f (ℓ x ∷ []) ≡ true) → (Among rows x (i + size f) (length (labelsOf fs)) → Held x fs) → Held x (f ⨾ fs)
+      → (Among rows x i (size f) → someBranchHolds f (ℓ x ∷ []) ≡ true) → (Among rows x (i + size f) (length (labelsOf fs)) → Held x fs) → Held x (f ⨾ fs)
   either-held f fs c first rest =
       pick (either-part (labels f) (labelsOf fs) c) (λ d. let e = first d in (simp (e, each-nothing fs), simp e))
       (λ d. let (e, o) = rest d in (simp (some-nothing f, e, or-true), simp (o, or-true)))
 
   mutual
-    candidate-held : (f : Formula) {x : ℕ} (i t : ℕ) → Writes rows reads f i t → Among rows x i (size f) → someHolds f (ℓ x ∷ []) ≡ true
+    candidate-held : (f : Formula) {x : ℕ} (i t : ℕ) → Writes rows reads f i t → Among rows x i (size f) → someBranchHolds f (ℓ x ∷ []) ≡ true
     candidate-held (FALSE l) i t w c = absurd (no-candidate (w .1) refl c)
     candidate-held (test s) i t w c = absurd (no-candidate (w .row-is) refl c)
     candidate-held (candidate l v s) i t w c = rw (own-row (w .2) c, w .0) (simp (eq-eqb i i refl))
@@ -171,7 +171,7 @@ module _ (rows reads : List ℕ) where
       OfAll = Meeting rows i j (eachHolds (f ⨾ fs) Two) (anyHolds (f ⨾ fs) Two) k
 
       -- no branch of the first holds a label of the rest, nor the other way round
-      first-lacks : (S : List Label) {x : ℕ} → List·Memᴰ (ℓ x) S → InRest x → someHolds f S ≡ false
+      first-lacks : (S : List Label) {x : ℕ} → List·Memᴰ (ℓ x) S → InRest x → someBranchHolds f S ≡ false
       first-lacks S {x} m c = some-lacks S x m f k t w (c .from)
 
       each-of-rest-lacks : (S : List Label) {x : ℕ} → List·Memᴰ (ℓ x) S → InFirst x → eachHolds fs S ≡ false
@@ -190,7 +190,7 @@ module _ (rows reads : List ℕ) where
       ends-before-rest : (a : ℕ) → k ≤ a → a < k + size f → endOf rows a ≤ k + size f
       ends-before-rest a h b = ends-inside rows reads f k t a w h b
 
-      both-first : InFirst i → InFirst j → Parting rows i j (someHolds f Two) → OfAll
+      both-first : InFirst i → InFirst j → Parting rows i j (someBranchHolds f Two) → OfAll
       both-first a b p =
           let ii = each-of-rest-lacks (ℓ i ∷ []) (List·Memᴰ·head refl) a in
           let jj = each-of-rest-lacks (ℓ j ∷ []) (List·Memᴰ·head refl) b in
@@ -238,7 +238,7 @@ module _ (rows reads : List ℕ) where
               (λ l. behind-j rows i j r (omega (arith, b .below)))
 
       meeting-of-parts : Among rows i k (length (labels f ++ labelsOf fs)) → Among rows j k (length (labels f ++ labelsOf fs))
-          → (InFirst i → InFirst j → Parting rows i j (someHolds f Two)) → (InRest i → InRest j → OfRest) → OfAll
+          → (InFirst i → InFirst j → Parting rows i j (someBranchHolds f Two)) → (InRest i → InRest j → OfRest) → OfAll
       meeting-of-parts a b first rest = go (either-part (labels f) (labelsOf fs) a) (either-part (labels f) (labelsOf fs) b)
         where
           go : InFirst i ⊎ InRest i → InFirst j ⊎ InRest j → OfAll
@@ -254,7 +254,7 @@ module _ (rows reads : List ℕ) where
 
     module _ (two : i ≡ j → ⊥) where
       mutual
-        parting : (f : Formula) (k t : ℕ) → Writes rows reads f k t → Among rows i k (size f) → Among rows j k (size f) → Parting rows i j (someHolds f Two)
+        parting : (f : Formula) (k t : ℕ) → Writes rows reads f k t → Among rows i k (size f) → Among rows j k (size f) → Parting rows i j (someBranchHolds f Two)
         parting (FALSE l) k t w a b = absurd (no-candidate (w .1) refl a)
         parting (test s) k t w a b = absurd (no-candidate (w .row-is) refl a)
         parting (candidate l v s) k t w a b = absurd (two (own-row (w .2) a ∙ sym (own-row (w .2) b)))
@@ -289,8 +289,8 @@ module _ (rows reads : List ℕ) where
         let e = and-left (has b (ℓ i)) true h in
         to-any (λ b. has b (ℓ i) && has b (ℓ i)) m (both (has b (ℓ i)) _ e e)
 
-    pub sharing-is-together : (i j : ℕ) → Among rows i k (size f) → Among rows j k (size f) → shareBranch f (ℓ i) (ℓ j) ≡ together rows i j
-    unfolding together
+    pub sharing-is-together : (i j : ℕ) → Among rows i k (size f) → Among rows j k (size f) → shareBranch f (ℓ i) (ℓ j) ≡ shareBranchIn rows i j
+    unfolding shareBranchIn
     sharing-is-together i j a b = go (eqb i j) refl
       where
         go : (e : Bool) → eqb i j ≡ e → shareBranch f (ℓ i) (ℓ j) ≡ (e || eqb (kindOf rows (overBoth rows i j)) 3)

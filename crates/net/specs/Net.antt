@@ -12,7 +12,7 @@ use lib.ListN.{length, getD}
 use Rattle.paper.specs.Limits.{mostCandidates, mostVariables}
 use Rattle.entries.specs.First.{first}
 use Rattle.rows.specs.Rows.{kindOf, argOf, endOf, Nested}
-use Rattle.net.specs.Prior.{isUnder, parentOf, guardOf, overBoth, together}
+use Rattle.net.specs.Prior.{isUnder, parentOf, guardOf, overBoth, shareBranchIn}
 
 -- where each part begins, and the whole length
 abbrev pub guardsFrom : ℕ
@@ -72,8 +72,8 @@ ParentWord #N i = (0 < i) × (i < #N)
 abbrev pub GuardWord : ℕ → ℕ → Type 0
 GuardWord #N i = (guardsFrom ≤ i) × (i ≤ guardsFrom + (#N - 1))
 
-abbrev pub ChainWord : ℕ → ℕ → Type 0
-ChainWord #S i = ((nextsFrom ≤ i) × (i < nextsFrom + #S)) ⊎ (firstsFrom ≤ i)
+abbrev pub IndexWord : ℕ → ℕ → Type 0
+IndexWord #S i = ((nextsFrom ≤ i) × (i < nextsFrom + #S)) ⊎ (firstsFrom ≤ i)
 
 -- a word that is not given is as it was
 pub record Only (Given : ℕ → Type 0) (old net : List ℕ) : Type 0 where
@@ -83,7 +83,7 @@ pub record Only (Given : ℕ → Type 0) (old net : List ℕ) : Type 0 where
 pub record Noted (rows chosen : List ℕ) (#N : ℕ) (old net : List ℕ) : Type 0 where
   pub noted : Net rows chosen #N net
   pub unguarded : getD net guardsFrom 0 ≡ 0
-  pub others : Only (λ i. ParentWord #N i ⊎ (GuardWord #N i ⊎ ChainWord (length chosen) i)) old net
+  pub others : Only (λ i. ParentWord #N i ⊎ (GuardWord #N i ⊎ IndexWord (length chosen) i)) old net
 
 module _ (rows : List ℕ) where
   -- the first row past row a whose subtree holds row j
@@ -94,7 +94,7 @@ module _ (rows : List ℕ) where
   -- that comes after i, and the end where it does not
   unfoldable pub clearTo : ℕ → ℕ → ℕ
   clearTo i j =
-      cond (together rows i j) i
+      cond (shareBranchIn rows i j) i
       (cond (ltb i (towards (overBoth rows i j) j)) (towards (overBoth rows i j) j) (endOf rows (overBoth rows i j)))
 
 -- what is known of labels from i on, for the candidate in row j: r is i where they share a branch; else no label from i on
@@ -102,5 +102,5 @@ module _ (rows : List ℕ) where
 pub record Cleared (rows : List ℕ) (i j r : ℕ) : Type 0 where
   pub exactly : r ≡ clearTo rows i j
   pub from : i ≤ r
-  pub shared : r ≡ i → together rows i j ≡ true
-  pub apart : (x : ℕ) → i ≤ x → x < r → together rows x j ≡ false
+  pub shared : r ≡ i → shareBranchIn rows i j ≡ true
+  pub apart : (x : ℕ) → i ≤ x → x < r → shareBranchIn rows x j ≡ false

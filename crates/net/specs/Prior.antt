@@ -40,8 +40,8 @@ module _ (rows : List ℕ) where
   overBoth i j = lastOf (λ a. isUnder a i && isUnder a j) 0 i
 
   -- two candidates share a branch: they are one, or the last row over both is a conjunction
-  unfoldable pub together : ℕ → ℕ → Bool
-  together i j = eqb i j || eqb (kindOf rows (overBoth i j)) 3
+  unfoldable pub shareBranchIn : ℕ → ℕ → Bool
+  shareBranchIn i j = eqb i j || eqb (kindOf rows (overBoth i j)) 3
 
   module _ (reads : List ℕ) where
     -- the star in row s reads v
@@ -62,4 +62,4 @@ variableOf rows chosen k = argOf rows (getD chosen k 0)
 
 -- the i-th chosen label comes before the j-th
 unfoldable pub prior : List ℕ → List ℕ → List ℕ → ℕ → ℕ → Bool
-prior rows reads chosen i j = isFrozen rows reads (getD chosen j 0) (variableOf rows chosen i) && together rows (getD chosen i 0) (getD chosen j 0)
+prior rows reads chosen i j = isFrozen rows reads (getD chosen j 0) (variableOf rows chosen i) && shareBranchIn rows (getD chosen i 0) (getD chosen j 0)

@@ -6,7 +6,7 @@ ghost use Rattle.paper.specs.Formula.{ℓ};
 ghost use Rattle.rows.specs.Rows.{kindOf};
 ghost use Rattle.net.specs.Prior.{isUnder, parentOf, guardOf};
 ghost use Rattle.net.specs.Net.{Tree, Chosen, Parents, Guards, Net, Noted, Cleared, Only};
-ghost use Rattle.net.specs.Net.{ParentWord, GuardWord, ChainWord, guardsFrom, nextsFrom, firstsFrom, netLength};
+ghost use Rattle.net.specs.Net.{ParentWord, GuardWord, IndexWord, guardsFrom, nextsFrom, firstsFrom, netLength};
 ghost use Rattle.paper.specs.Limits.{mostRows, mostVariables, slots};
 use entries::wide;
 use paper::Label;
@@ -143,10 +143,10 @@ fn note_none(none: u16, net: &mut [u16; NET_LENGTH])
 }
 
 // Notes for each chosen label the next one of its variable, and for each variable its first, from the last label down.
-fn note_chains(rows: &[u16], chosen: &[u16], n: u16, net: &mut [u16; NET_LENGTH])
+fn note_indices(rows: &[u16], chosen: &[u16], n: u16, net: &mut [u16; NET_LENGTH])
     requires { ⌜ Chosen (now rows) (now chosen) n × Parents (now rows) n (now net) × Guards (now rows) n (now net) ⌝ }
     ensures { λ _. ⌜ Net (now (rows .entry)) (now (chosen .entry)) n (now (net .exit))
-        × Only (ChainWord (length (now (chosen .entry)))) (now (net .entry)) (now (net .exit)) ⌝ }
+        × Only (IndexWord (length (now (chosen .entry)))) (now (net .entry)) (now (net .exit)) ⌝ }
 {
     note_none(chosen.len() as u16, net);
     let mut k = chosen.len();
@@ -165,7 +165,7 @@ pub fn note_net(rows: &[u16], chosen: &[u16], n: u16, net: &mut [u16; NET_LENGTH
 {
     note_parents(rows, n, net);
     note_guards(rows, n, net);
-    note_chains(rows, chosen, n, net);
+    note_indices(rows, chosen, n, net);
 }
 
 // Whether candidates i and j share a branch, and what that tells of the labels after i: i itself where they do, else a label

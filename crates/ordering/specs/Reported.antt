@@ -17,6 +17,6 @@ abbrev pub labelled : List ℕ → List ℕ → List ℕ
 labelled chosen ks = map (λ k. getD chosen k 0) ks
 
 -- What filling `out` with the reported order leaves: how many are placed, and their labels in front of what was there.
-pub record Filled (rows reads chosen out₀ out : List ℕ) (count : ℕ) : Type 0 where
+pub record OrderFilled (rows reads chosen out₀ out : List ℕ) (count : ℕ) : Type 0 where
   pub number : count ≡ length (ordered rows reads chosen)
   pub filled : out ≡ inFront (labelled chosen (ordered rows reads chosen)) out₀

@@ -6,11 +6,11 @@ ghost use Prim.Native.Nat.{_≤_, _<_};
 ghost use mathlib.Core.Bool.{_&&_};
 ghost use lib.Dec.{ltb};
 ghost use lib.ListN.{length};
-ghost use Rattle.ordering.specs.Reported.{Filled};
+ghost use Rattle.ordering.specs.Reported.{OrderFilled};
 ghost use Rattle.fingers.specs.Ready.{Ready};
 ghost use Rattle.fingers.specs.Graph.{free};
 ghost use Rattle.ordering.specs.Placing.{State, Lowered, Visited, Lowest};
-ghost use Rattle.fingers.specs.Places.{graphOf};
+ghost use Rattle.fingers.specs.Spots.{graphOf};
 ghost use Rattle.paper.specs.Limits.{slots};
 use entries::least;
 use entries::wide;
@@ -116,7 +116,7 @@ pub fn order(
     out: &mut [u16; SLOTS],
 ) -> usize
     requires { ⌜ Ready (now rows) (now reads) (now chosen) (now net) n × (length (now out) ≡ slots) ⌝ }
-    ensures { λ r. ⌜ Filled (now (rows .entry)) (now (reads .entry)) (now (chosen .entry)) (now (out .entry)) (now (out .exit)) r ⌝ }
+    ensures { λ r. ⌜ OrderFilled (now (rows .entry)) (now (reads .entry)) (now (chosen .entry)) (now (out .entry)) (now (out .exit)) r ⌝ }
 {
     let mut placed = [0u16; SLOTS];
     let mut finger = [0u64; SLOTS];

@@ -16,13 +16,13 @@ use Rattle.paper.specs.Formula.{Label, Variable, Candidate, same, alike,
 use Rattle.paper.specs.Formula.{Formula, Formulas, FALSE, test, candidate, conjunction, disjunction, exists, IF, only, _⨾_}
 use Rattle.paper.specs.Branch.{branches}
 use Rattle.paper.specs.Judgement.{variables}
-use Rattle.paper.specs.Structure.Cover.{Cover, cover, leafCover, unitCover, joinCover, coverReading, coverOf}
+use Rattle.paper.specs.Structure.Cover.{Cover, cover, leafCover, unitCover, joinCover, coverFold, coverOf}
 use Rattle.paper.specs.Statements.{CountsSay}
 use Rattle.paper.proofs.Bools.{or-right, and-left, not-so}
 use Rattle.paper.proofs.Lists.{any-append, of-any, to-those, of-those, howMany-append, pairs-none}
 use Rattle.paper.proofs.Labels.{same-refl, same-eq, has-head, mem-has, has-left, has-right}
 use Rattle.paper.proofs.Labels.{sub-has, rising-above, rising-split, candidate-sub, candidates-sub}
-use Rattle.paper.proofs.Readings.{branchUnit, branchJoin, branchReading, AtLeaves, AtLeavesOf, leaves-map, carried, branches-read}
+use Rattle.paper.proofs.Folds.{branchUnit, branchJoin, branchFold, AtLeaves, AtLeavesOf, leaves-map, carried, branches-read}
 use Rattle.paper.proofs.Variables.{to-variables}
 
 -- laws of tests
@@ -192,7 +192,7 @@ module _ (f : Formula) (A : List Label) (v : Variable) where
   cover-of-branches : Rising 0 (labels f) → over chosen (branches f) ≡ coverOf A v f
   cover-of-branches r =
       ap (over chosen) (branches-read f)
-      ∙ carried branchReading (coverReading A v) (over chosen) (over-unit chosen) (over-join chosen) f
+      ∙ carried branchFold (coverFold A v) (over chosen) (over-unit chosen) (over-join chosen) f
       (leaves-map none none (λ l w e. over-leaf chosen l ∙ ap (λ t. leafCover (has A l && t)) e) f (agrees-at-leaves v (assigns f v) 0 f r (λ l h. refl)))
     where
       none : (l : Label) → assigns f v l ≡ false → over chosen ((l ∷ []) ∷ []) ≡ leafCover false

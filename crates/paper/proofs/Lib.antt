@@ -13,7 +13,7 @@ pub mod Order
 pub mod Judgement
 pub mod Carry
 pub mod Keys
-pub mod Readings
+pub mod Folds
 pub mod Cover
 pub mod Share
 pub mod KeyLists

@@ -12,7 +12,7 @@ use borrow.Author.Tests.{eqb-false, ltb-false}
 use Rattle.paper.specs.Lists.{anyOf, allOf, those}
 use Rattle.paper.specs.Formula.{Label, Variable, ℓ, has, holds, Star, Candidate, Formula, labels, isCandidate, candidates, same, WellFormed}
 use Rattle.paper.specs.Branch.{branches}
-use Rattle.paper.specs.Frozen.{Site, sites, frozen, readBy}
+use Rattle.paper.specs.Frozen.{Site, sites, frozen, foldBy}
 use Rattle.paper.specs.Before.{before, depends, shareBranch}
 use Rattle.paper.specs.Order.{leads}
 use Rattle.paper.specs.Strategy.{chosenOn, MinimalCovering}
@@ -90,7 +90,7 @@ silent-holds-none : (vs : List Variable) (v : Variable) → isSilent vs ≡ true
 silent-holds-none [] v h = refl
 silent-holds-none (w ∷ vs) v h = absurd (false≢true h)
 
-silent-stars : (ss : List Star) (v : Variable) → allOf (λ t. isSilent (t .reads)) ss ≡ true → readBy ss v ≡ false
+silent-stars : (ss : List Star) (v : Variable) → allOf (λ t. isSilent (t .reads)) ss ≡ true → foldBy ss v ≡ false
 silent-stars [] v h = refl
 silent-stars (s ∷ ss) v h = rw (silent-holds-none (s .reads) v (and-left (isSilent (s .reads)) _ h)) (silent-stars ss v (and-right (isSilent (s .reads)) _ h))
 
@@ -98,7 +98,7 @@ module _ (f : Formula) (A : List Label) (quiet : silent f ≡ true) where
   nothing-frozen : (j : Label) (v : Variable) → frozen f j v ≡ false
   nothing-frozen j v = not-so (frozen f j v) λ h. at (site-of-frozen f j v h)
     where
-      at : (s : Site) × List·Memᴰ s (sites f) × (j ≡ s .label) × (readBy (s .stars) v ≡ true) → ⊥
+      at : (s : Site) × List·Memᴰ s (sites f) × (j ≡ s .label) × (foldBy (s .stars) v ≡ true) → ⊥
       at (s, t, e, reads) = false≢true (sym (silent-stars (s .stars) v (of-all (λ s. allOf (λ t. isSilent (t .reads)) (s .stars)) quiet t)) ∙ reads)
 
   nothing-depends : (i j : Label) → depends f i j ≡ false

@@ -17,15 +17,15 @@ use Rattle.paper.specs.Formula.{Label, same, has, labels, labelsOf, Risi
 use Rattle.paper.specs.Formula.{FALSE, test, candidate, conjunction, disjunction, exists, IF, only, _⨾_}
 use Rattle.paper.specs.Branch.{branches, ofEach, ofAny}
 use Rattle.paper.specs.Transition.{key, keys, isLower, isKept}
-use Rattle.paper.specs.Structure.Reading.{readAll}
-use Rattle.paper.specs.Structure.KeyCount.{KeyCount, keyCount, number, leafKeys, unitKeys, joinKeys, keyReading, keyCountOf, numberOf, numberOfEach}
+use Rattle.paper.specs.Structure.Fold.{foldAll}
+use Rattle.paper.specs.Structure.KeyCount.{KeyCount, keyCount, number, leafKeys, unitKeys, joinKeys, keyFold, keyCountOf, numberOf, numberOfEach}
 use Rattle.paper.specs.Structure.Kept.{keptAt, keptEach, keptAny, keptAll}
 use Rattle.paper.specs.Statements.{KeysSay}
 use Rattle.paper.proofs.Bools.{pick}
 use Rattle.paper.proofs.Lists.{any-append, to-pairs}
 use Rattle.paper.proofs.Labels.{rising-ext, rising-split, branch-sub, any-sub}
 use Rattle.paper.proofs.Distinct.{sameKey-refl, isLower-irreflexive}
-use Rattle.paper.proofs.Readings.{joinedFromRight, from-the-unit}
+use Rattle.paper.proofs.Folds.{joinedFromRight, from-the-unit}
 use Rattle.paper.proofs.Keys.{of-key, to-key, keptIn, to-kept, of-kept, key-rises, key-length}
 use Rattle.paper.proofs.KeyLists.{getD-mem, length-pairs, at-pairs, keysOf, Level, key-append, of-keysOf}
 use Rattle.paper.proofs.KeyLists.{keys-of-pairs, keys-of-append, keys-of-keyless, lower-key, kept-append, kept-none, kept-pairs}
@@ -271,10 +271,10 @@ module _ (A : List Label) where
 
   -- the keys of a join's children, counted from the right
   abbrev pub countOfAll : Bool → Formulas → KeyCount
-  countOfAll = joinedFromRight (keyReading A)
+  countOfAll = joinedFromRight (keyFold A)
 
-  pub count-joined : (c : Bool) (fs : Formulas) → readAll (keyReading A) c (unitKeys c) fs ≡ countOfAll c fs
-  count-joined c fs = from-the-unit (keyReading A) c (joinKeys-assoc c) (joinKeys-unit c) fs
+  pub count-joined : (c : Bool) (fs : Formulas) → foldAll (keyFold A) c (unitKeys c) fs ≡ countOfAll c fs
+  count-joined c fs = from-the-unit (keyFold A) c (joinKeys-assoc c) (joinKeys-unit c) fs
 
   pub number-each : (fs : Formulas) → numberOfEach A fs ≡ number (countOfAll true fs)
   number-each (only f) = refl

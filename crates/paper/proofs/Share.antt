@@ -1,5 +1,5 @@
 -- Two labels share a branch exactly if the structure says so (specs/Statements.antt, 7): some branch of a formula holds
--- given labels as `someHolds` works it out. At a conjunction a branch is one of the first child joined to one of the rest,
+-- given labels as `someBranchHolds` works it out. At a conjunction a branch is one of the first child joined to one of the rest,
 -- and it holds the labels exactly if they part so that the first holds the one part and the second the other.
 use Prim.Native.Nat.{ℕ}
 use mathlib.Core.Path.{_≡_, refl, sym, subst, ap, _∙_}
@@ -8,7 +8,7 @@ use mathlib.Core.List.{List, [], _∷_, _++_, map, List·Memᴰ, List·Memᴰ·h
 use Rattle.paper.specs.Lists.{anyOf, pairs}
 use Rattle.paper.specs.Formula.{Label, has, Formula, Formulas, FALSE, test, candidate, conjunction, disjunction, exists, IF, only, _⨾_}
 use Rattle.paper.specs.Branch.{branches, ofEach, ofAny}
-use Rattle.paper.specs.Structure.Share.{Parts, toLeft, toRight, parts, holdsAll, someHolds, eachHolds, anyHolds}
+use Rattle.paper.specs.Structure.Share.{Parts, toLeft, toRight, parts, holdsAll, someBranchHolds, eachHolds, anyHolds}
 use Rattle.paper.specs.Statements.{SharingSays}
 use Rattle.paper.proofs.Bools.{both, and-left, and-right, same-answer, pick}
 use Rattle.paper.proofs.Lists.{to-any, of-any, any-append, any-same, of-map, to-pairs, of-pairs}
@@ -64,7 +64,7 @@ module _ (bs cs : List (List Label)) (f g : List Label → Bool)
           (both (f (p .left)) _ (left (p .left) ∙ to-any (λ b. holdsAll b (p .left)) u q) (right (p .right) ∙ to-any (λ c. holdsAll c (p .right)) w r))
 
 mutual
-  pub some-holds : (f : Formula) (S : List Label) → someHolds f S ≡ anyHeld (branches f) S
+  pub some-holds : (f : Formula) (S : List Label) → someBranchHolds f S ≡ anyHeld (branches f) S
   some-holds (FALSE l) S = sym (or-false (holdsAll (l ∷ []) S))
   some-holds (test s) S = sym (or-false (holdsAll (s .label ∷ []) S))
   some-holds (candidate l v s) S = sym (or-false (holdsAll (l ∷ []) S))
@@ -75,7 +75,7 @@ mutual
 
   each-holds : (fs : Formulas) (S : List Label) → eachHolds fs S ≡ anyHeld (ofEach fs) S
   each-holds (only f) S = some-holds f S
-  each-holds (f ⨾ fs) S = held-of-pairs (branches f) (ofEach fs) (someHolds f) (eachHolds fs) (λ T. some-holds f T) (λ T. each-holds fs T) S
+  each-holds (f ⨾ fs) S = held-of-pairs (branches f) (ofEach fs) (someBranchHolds f) (eachHolds fs) (λ T. some-holds f T) (λ T. each-holds fs T) S
 
   any-holds : (fs : Formulas) (S : List Label) → anyHolds fs S ≡ anyHeld (ofAny fs) S
   any-holds (only f) S = some-holds f S

@@ -23,7 +23,7 @@ use Rattle.paper.specs.Judgement.{accepted, refused, missed, doubled, ju
 use Rattle.paper.specs.Structure.Cover.{coverOf}
 use Rattle.paper.specs.Structure.KeyCount.{numberOf}
 use Rattle.paper.specs.Structure.Kept.{keptAt}
-use Rattle.paper.specs.Structure.Share.{someHolds}
+use Rattle.paper.specs.Structure.Share.{someBranchHolds}
 
 -- 1. Branches as document 01 reads them are exactly the minimal models of boolForm, the paper's own definition, where labels
 -- ascend in preorder, as a table's do.
@@ -135,7 +135,7 @@ module _ (#V : ℕ) (f : Formula) (A : List Label) where
   CountsSay = WellFormed #V f → (v : Variable) → v .0 < #V → CoverSays v
 
   abbrev pub SharingSays : Type 0
-  SharingSays = (i j : Label) → shareBranch f i j ≡ someHolds f (i ∷ j ∷ [])
+  SharingSays = (i j : Label) → shareBranch f i j ≡ someBranchHolds f (i ∷ j ∷ [])
 
   pub record NumbersSay : Type 0 where
     pub count : length (keys f A) ≡ numberOf A f

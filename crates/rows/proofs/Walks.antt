@@ -10,7 +10,7 @@ use lib.ListN.{length}
 use lib.Dec.{eqb}
 use Rattle.paper.specs.declared.Label.{Label}
 use Rattle.paper.specs.Formula.{ℓ, 𝓋, Formula}
-use Rattle.paper.specs.Structure.Reading.{Reading, readOf, readAll}
+use Rattle.paper.specs.Structure.Fold.{Fold, foldOf, foldAll}
 use Rattle.rows.specs.Rows.{kindOf, argOf, endOf, Form, aFALSE, aStar, aCandidate, aConjunction, aDisjunction, anExists, anIF, noForm, formOf, meets}
 use Rattle.rows.specs.Formula.{starAt, childrenAt, nodeAt, formulaAt}
 use Rattle.rows.specs.Walk.{expressions, firstUnder, expressionsAt, firstAt, Shaped, Walkable, skeletonAt, valueAt, joinedFrom}
@@ -18,7 +18,7 @@ use Rattle.rows.proofs.Forms.{by-form}
 use Rattle.rows.proofs.Rules.{number-of}
 use Rattle.rows.proofs.Meets.{Child, child}
 
-module _ {A : Type 0} (r : Reading A) (rows : List ℕ) where
+module _ {A : Type 0} (r : Fold A) (rows : List ℕ) where
   -- no level left
   pub value-none : (left i : ℕ) → left ≡ 0 → valueAt r rows left i ≡ r .atFALSE (ℓ i)
   unfolding valueAt formulaAt
@@ -26,7 +26,7 @@ module _ {A : Type 0} (r : Reading A) (rows : List ℕ) where
 
   -- row i, whose kind word is k, its children being read with one level less
   value-node : (left i k : ℕ) → (left ≡ 0 → ⊥) → kindOf rows i ≡ k
-      → valueAt r rows left i ≡ readOf r (nodeAt rows [] (skeletonAt rows (left - 1)) i (formOf k))
+      → valueAt r rows left i ≡ foldOf r (nodeAt rows [] (skeletonAt rows (left - 1)) i (formOf k))
   unfolding valueAt formulaAt
   value-node zero i k deep e = absurd (deep refl)
   value-node (suc left) i k deep e = rw (sub-one (suc left), e)
@@ -46,13 +46,13 @@ module _ {A : Type 0} (r : Reading A) (rows : List ℕ) where
 
   -- the children of a conjunction or disjunction, of which there is one or more
   read-children : (left : ℕ) (c : Bool) (a : A) (more i : ℕ)
-      → readAll r c a (childrenAt rows [] (skeletonAt rows left) more i) ≡ joinedFrom r rows left c a (suc more) i
+      → foldAll r c a (childrenAt rows [] (skeletonAt rows left) more i) ≡ joinedFrom r rows left c a (suc more) i
   unfolding valueAt joinedFrom childrenAt
   read-children left c a zero i = refl
-  read-children left c a (suc more) i = read-children left c (r .join c a (readOf r (skeletonAt rows left i))) more (endOf rows i)
+  read-children left c a (suc more) i = read-children left c (r .join c a (foldOf r (skeletonAt rows left i))) more (endOf rows i)
 
   read-all : (left : ℕ) (c : Bool) (m i : ℕ) → 0 < m
-      → readAll r c (r .unit c) (childrenAt rows [] (skeletonAt rows left) (m - 1) i) ≡ joinedFrom r rows left c (r .unit c) m i
+      → foldAll r c (r .unit c) (childrenAt rows [] (skeletonAt rows left) (m - 1) i) ≡ joinedFrom r rows left c (r .unit c) m i
   read-all left c zero i some = absurd (omega arith)
   read-all left c (suc m) i some = rw (sub-one (suc m)) (read-children left c (r .unit c) m i)
 
@@ -60,7 +60,7 @@ module _ {A : Type 0} (r : Reading A) (rows : List ℕ) where
   abbrev Joins : ℕ → ℕ → ℕ → Form → Type 0
   Joins left i k f =
       0 < expressions f (argOf rows i)
-      → readOf r (nodeAt rows [] (skeletonAt rows left) i f)
+      → foldOf r (nodeAt rows [] (skeletonAt rows left) i f)
       ≡ joinedFrom r rows left (eqb k 3) (r .unit (eqb k 3)) (expressions f (argOf rows i)) (firstUnder f i)
 
   joins : (left i k : ℕ) → Joins left i k (formOf k)
@@ -93,14 +93,14 @@ module _ {A : Type 0} (r : Reading A) (rows : List ℕ) where
 
   -- No reading looks at what stars read: rows are read alike whatever the reads are.
   module _ (reads : List ℕ) where
-    children-alike : (f g : ℕ → Formula) → ((j : ℕ) → readOf r (f j) ≡ readOf r (g j)) → (c : Bool) (a : A) (more i : ℕ)
-        → readAll r c a (childrenAt rows reads f more i) ≡ readAll r c a (childrenAt rows [] g more i)
+    children-alike : (f g : ℕ → Formula) → ((j : ℕ) → foldOf r (f j) ≡ foldOf r (g j)) → (c : Bool) (a : A) (more i : ℕ)
+        → foldAll r c a (childrenAt rows reads f more i) ≡ foldAll r c a (childrenAt rows [] g more i)
     unfolding childrenAt
     children-alike f g alike c a zero i = ap (r .join c a) (alike i)
-    children-alike f g alike c a (suc more) i = rw (alike i) (children-alike f g alike c (r .join c a (readOf r (g i))) more (endOf rows i))
+    children-alike f g alike c a (suc more) i = rw (alike i) (children-alike f g alike c (r .join c a (foldOf r (g i))) more (endOf rows i))
 
-    node-alike : (f g : ℕ → Formula) → ((j : ℕ) → readOf r (f j) ≡ readOf r (g j)) → (i : ℕ) (form : Form)
-        → readOf r (nodeAt rows reads f i form) ≡ readOf r (nodeAt rows [] g i form)
+    node-alike : (f g : ℕ → Formula) → ((j : ℕ) → foldOf r (f j) ≡ foldOf r (g j)) → (i : ℕ) (form : Form)
+        → foldOf r (nodeAt rows reads f i form) ≡ foldOf r (nodeAt rows [] g i form)
     unfolding nodeAt starAt
     node-alike f g alike i aFALSE = refl
     node-alike f g alike i aStar = refl
@@ -111,7 +111,7 @@ module _ {A : Type 0} (r : Reading A) (rows : List ℕ) where
     node-alike f g alike i anIF = let d = alike (i + 2) in let e = alike (endOf rows (i + 2)) in cc
     node-alike f g alike i noForm = refl
 
-    pub value-read : (left i : ℕ) → readOf r (formulaAt rows reads left i) ≡ valueAt r rows left i
+    pub value-read : (left i : ℕ) → foldOf r (formulaAt rows reads left i) ≡ valueAt r rows left i
     unfolding formulaAt valueAt
     value-read zero i = refl
     value-read (suc left) i = node-alike (formulaAt rows reads left) (skeletonAt rows left) (λ j. value-read left j) i (formOf (kindOf rows i))
@@ -153,12 +153,12 @@ module _ {rows : List ℕ} {#N : ℕ} where
 
 -- The invariant of a loop over the expressions under a row that is read `left` levels deep at most. The loop began with a₀ and
 -- with m₀ expressions from label k₀ on; now a is joined, and m are left, from k on. Joined to a, these give what all give.
-pub record Walking {A : Type 0} (r : Reading A) (rows : List ℕ) (#N left : ℕ) (c : Bool) (a₀ : A) (m₀ : ℕ) (k₀ : Label) (a : A) (m : ℕ) (k : Label)
+pub record Walking {A : Type 0} (r : Fold A) (rows : List ℕ) (#N left : ℕ) (c : Bool) (a₀ : A) (m₀ : ℕ) (k₀ : Label) (a : A) (m : ℕ) (k : Label)
     : Type 0 where
   pub along : Along rows #N m (k .0)
   pub value : joinedFrom r rows (left - 1) c a m (k .0) ≡ joinedFrom r rows (left - 1) c a₀ m₀ (k₀ .0)
 
-module _ {A : Type 0} {r : Reading A} {rows : List ℕ} {#N left : ℕ} {a₀ : A} {m₀ : ℕ} {k₀ : Label} where
+module _ {A : Type 0} {r : Fold A} {rows : List ℕ} {#N left : ℕ} {a₀ : A} {m₀ : ℕ} {k₀ : Label} where
   -- it holds as the loop begins
   pub walk-begins : {c : Bool} {i : ℕ} → Walkable rows #N i → m₀ ≡ expressionsAt rows i → k₀ ≡ ℓ (firstAt rows i)
       → Walking r rows #N left c a₀ m₀ k₀ a₀ m₀ k₀

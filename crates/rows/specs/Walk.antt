@@ -7,7 +7,7 @@ use mathlib.Core.Path.{_≡_}
 use lib.ListN.{length}
 use Rattle.paper.specs.Limits.{mostRows}
 use Rattle.paper.specs.Formula.{Formula}
-use Rattle.paper.specs.Structure.Reading.{Reading, readOf}
+use Rattle.paper.specs.Structure.Fold.{Fold, foldOf}
 use Rattle.rows.specs.Rows.{kindOf, argOf, endOf, Form, aFALSE, aStar, aCandidate, aConjunction, aDisjunction, anExists, anIF, noForm, formOf, meets}
 use Rattle.rows.specs.Formula.{formulaAt}
 
@@ -59,10 +59,10 @@ pub record Walkable (rows : List ℕ) (#N i : ℕ) : Type 0 where
 abbrev pub skeletonAt : List ℕ → ℕ → ℕ → Formula
 skeletonAt rows left i = formulaAt rows [] left i
 
-module _ {A : Type 0} (r : Reading A) (rows : List ℕ) where
+module _ {A : Type 0} (r : Fold A) (rows : List ℕ) where
   -- what the reading has at row i
   unfoldable pub valueAt : ℕ → ℕ → A
-  valueAt left i = readOf r (skeletonAt rows left i)
+  valueAt left i = foldOf r (skeletonAt rows left i)
 
   -- the values of m children from row i on, each at the end of the one before, joined to what was read before them
   unfoldable pub joinedFrom : ℕ → Bool → A → ℕ → ℕ → A

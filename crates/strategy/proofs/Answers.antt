@@ -34,18 +34,18 @@ use Rattle.written.specs.Tables.{formulaIn}
 use Rattle.cover.specs.declared.Covering.the-variants.{Missed, Doubled}
 use Rattle.cover.specs.declared.Covering.the-variants as Covering
 use Rattle.marks.specs.Marks.{Marked}
-use Rattle.cover.specs.Words.{coveringOf, judgementOf}
+use Rattle.cover.specs.Masks.{coveringOf, judgementOf}
 use Rattle.keys.specs.Keys.{total, keysAt}
 use Rattle.cover.proofs.CoveringSays.{covering-says, gives-covered}
 use Rattle.keys.proofs.KeyNumbers.{keys-past-limit, keys-number}
-use Rattle.cycles.specs.Cyclic.{lowestCyclic}
+use Rattle.cycles.specs.Cyclic.{lowestOnCycle}
 use Rattle.entries.specs.Front.{inFront}
-use Rattle.ordering.specs.Reported.{Filled}
+use Rattle.ordering.specs.Reported.{OrderFilled}
 use Rattle.filling.specs.Filling.{copied}
 use Rattle.verdict.specs.declared.Accepted.{Accepted}
 use Rattle.verdict.specs.declared.Judged.{Judged}
 use Rattle.verdict.specs.declared.Judged.the-variants as answer
-use Rattle.verdict.specs.Verdict.{refusedAt, answerOf, isStranger, countedAs}
+use Rattle.verdict.specs.Verdict.{refusedAt, asJudged, isStranger, countedAs}
 use Rattle.verdict.proofs.Answers.{counted-answer}
 use Rattle.strategy.specs.Judge.{proposalOf, proposalIn, judgedOf, wordsOfOrder, leftBy, orderIn, orderLeft, JudgedInto}
 use Rattle.strategy.specs.Judge.{Parts, formulaOf, Covered, JudgedBy, OrderedParts, JudgedParts}
@@ -70,7 +70,7 @@ module _ (#V : ℕ) (f : Formula) (A : List Label) where
       omega arith
 
 pub count-answers : {rows reads chosen : List ℕ} {#V #N : ℕ} {marks : List ℕ} (l : Layout) → Covered rows reads chosen #V #N → Marked (proposalOf chosen) marks
-    → answerOf l (judgeCount #V (formulaOf rows reads) (proposalOf chosen)) ≡ countedAs l (total (keysAt rows marks 64 0))
+    → asJudged l (judgeCount #V (formulaOf rows reads) (proposalOf chosen)) ≡ countedAs l (total (keysAt rows marks 64 0))
 count-answers {rows} {reads} {chosen} {#V} {#N} {marks} l c marked =
     let f = formulaOf rows reads in
     let A = proposalOf chosen in
@@ -94,15 +94,15 @@ module _ (rows reads chosen : List ℕ) where
 -- A refusal leaves all as it was.
 module _ {rows reads chosen : List ℕ} {l : Layout} {j : Judgement} {r : Judged} where
   refused-so : {number place : ℕ} (lent : List ℕ) → j ≡ refused number place → r ≡ refusedAt number place → JudgedBy rows reads chosen l lent lent r j
-  refused-so lent e q = record { answered = q ∙ sym (ap (answerOf l) e); left-so = sym (ap (λ i. leftAfter rows reads chosen lent (answerOf l i)) e) }
+  refused-so lent e q = record { answered = q ∙ sym (ap (asJudged l) e); left-so = sym (ap (λ i. leftAfter rows reads chosen lent (asJudged l i)) e) }
 
 -- The chain, from its end. 13 and 14: the order leaves a cycle, or places all and the transitions are counted.
 module _ {rows reads chosen : List ℕ} (l : Layout) {order₀ order : List ℕ} {count : ℕ} (c : Covered rows reads chosen (l .variables) (l .rows))
-    (filled : Filled rows reads chosen order₀ order count) where
-  pub cycle-there : {k : ℕ} → count < length chosen → k ≡ lowestCyclic rows reads chosen → (k < length chosen) × (length chosen ≤ 2047)
+    (filled : OrderFilled rows reads chosen order₀ order count) where
+  pub cycle-there : {k : ℕ} → count < length chosen → k ≡ lowestOnCycle rows reads chosen → (k < length chosen) × (length chosen ≤ 2047)
   cycle-there h e = (omega (arith, some-cycle c (omega (arith, filled .number))), choice c .few)
 
-  pub cycle-refused : {k : ℕ} {r : Judged} (lent : List ℕ) → count < length chosen → k ≡ lowestCyclic rows reads chosen → r ≡ refusedAt 13 (getD chosen k 0)
+  pub cycle-refused : {k : ℕ} {r : Judged} (lent : List ℕ) → count < length chosen → k ≡ lowestOnCycle rows reads chosen → r ≡ refusedAt 13 (getD chosen k 0)
       → OrderedParts rows reads chosen l lent lent r
   cycle-refused lent h e q =
       refused-so lent (order-refuses c (omega (arith, filled .number))) (q ∙ ap (λ n. refusedAt 13 (getD chosen n 0)) e)
@@ -128,8 +128,8 @@ module _ {rows reads chosen : List ℕ} (l : Layout) {order₀ order : List ℕ}
   -- all are placed, and the count answers
   module _ {marks : List ℕ} {r : Judged} (all : length chosen ≤ count) (marked : Marked (proposalOf chosen) marks)
       (counted : r ≡ countedAs l (total (keysAt rows marks 64 0))) where
-    as-judged : r ≡ answerOf l (judgeOrder (l .variables) (formulaOf rows reads) (proposalOf chosen))
-    as-judged = counted ∙ sym (ap (answerOf l) (order-passes c (omega (arith, filled .number))) ∙ count-answers l c marked)
+    as-judged : r ≡ asJudged l (judgeOrder (l .variables) (formulaOf rows reads) (proposalOf chosen))
+    as-judged = counted ∙ sym (ap (asJudged l) (order-passes c (omega (arith, filled .number))) ∙ count-answers l c marked)
 
     pub count-refused : {x : Refusal} (lent : List ℕ) → r ≡ answer.Refused x → OrderedParts rows reads chosen l lent lent r
     count-refused lent e = record { answered = as-judged; left-so = ap (leftAfter rows reads chosen lent) (sym e ∙ as-judged) }
@@ -185,7 +185,7 @@ judged-whole {words} {lent} {l = l} e j =
     record { answered = rw e (j .answered); left-so = rw e (j .left-so ∙ same-layout (judge (l .variables) (formulaIn words l) (proposalIn words l))) }
   where
     -- an answer's layout is the one that it was given
-    same-layout : (j : Judgement) → leftBy (answerOf l j) (λ _. orderIn words l) lent ≡ leftBy (answerOf l j) (orderIn words) lent
+    same-layout : (j : Judgement) → leftBy (asJudged l j) (λ _. orderIn words l) lent ≡ leftBy (asJudged l j) (orderIn words) lent
     same-layout (accepted v n s t) = refl
     same-layout (refused number place) = refl
 

@@ -13,7 +13,7 @@ use Rattle.table.specs.declared.Checked.{Checked}
 use Rattle.table.specs.declared.Checked.the-variants.{Sound, Refused}
 use Rattle.table.specs.Table.{checked}
 use Rattle.written.specs.Tables.{formulaIn}
-use Rattle.verdict.specs.Verdict.{acceptedWith, answerOf}
+use Rattle.verdict.specs.Verdict.{acceptedWith, asJudged}
 use Rattle.verdict.proofs.Answers.{accepting}
 use Rattle.strategy.specs.Judge.{proposalIn, judgedAs, judgedOf, AcceptedSo, AcceptedExactly}
 
@@ -37,7 +37,7 @@ module _ (words : List ℕ) (l : Layout) where
   unfolding judgedOf
   accepts a =
       ap (judgedAs words) (a .sound)
-      ∙ ap (answerOf l) (Paper.accepted-exactly (l .variables) (formulaIn words l) (proposalIn words l) .1 (a .strategy, a .few))
+      ∙ ap (asJudged l) (Paper.accepted-exactly (l .variables) (formulaIn words l) (proposalIn words l) .1 (a .strategy, a .few))
       ∙ ap (acceptedWith l) (sym (a .count))
 
 pub accepted-so : (words : List ℕ) (l : Layout) (t : ℕ) → judgedOf words ≡ acceptedWith l t → AcceptedSo words l t

@@ -24,9 +24,9 @@ use Rattle.rows.specs.Rows.{kindOf}
 use Rattle.rows.proofs.Meets.{lt-or-le}
 use Rattle.net.specs.Net.{Chosen, Net}
 use Rattle.net.proofs.PriorIsBefore.{order-by-rows, cycle-by-rows}
-use Rattle.cycles.specs.Cyclic.{isCyclic, lowestCyclic}
+use Rattle.cycles.specs.Cyclic.{isOnCycle, lowestOnCycle}
 use Rattle.entries.specs.Front.{inFront}
-use Rattle.ordering.specs.Reported.{ordered, labelled, Filled}
+use Rattle.ordering.specs.Reported.{ordered, labelled, OrderFilled}
 use Rattle.fingers.specs.Ready.{Ready}
 use Rattle.strategy.specs.Judge.{Parts, Covered, formulaOf, proposalOf, wordsOfOrder}
 use Rattle.strategy.proofs.Held.{parts-write, rows-are, ascend-all, chosen-rows, ready}
@@ -146,29 +146,29 @@ module _ {rows reads chosen : List ℕ} {#V #N : ℕ} (c : Covered rows reads ch
   pub order-fits : length (ordered rows reads chosen) ≤ length chosen
   order-fits = omega (arith, greedy-le (before f A) (length A) A, many-placed, length-map chosen ℓ)
 
-  as-numbered : (k : ℕ) → k < length chosen → isCyclic rows reads chosen k ≡ onCycle (before f A) A (ℓ (getD chosen k 0))
-  unfolding isCyclic
+  as-numbered : (k : ℕ) → k < length chosen → isOnCycle rows reads chosen k ≡ onCycle (before f A) A (ℓ (getD chosen k 0))
+  unfolding isOnCycle
   as-numbered k h = sym (cycle-by-rows rows reads f (parts-write p) chosen #N (rows-are p) (p .below) kinds (ascend-all chosen (p .ascends)) k h)
 
   -- fewer are placed: the lowest number on a cycle is one
-  pub some-cycle : length (ordered rows reads chosen) < length chosen → lowestCyclic rows reads chosen < length chosen
-  unfolding lowestCyclic
-  some-cycle h = pick (lt-or-le (lowestCyclic rows reads chosen) (length chosen)) (λ l. l) none
+  pub some-cycle : length (ordered rows reads chosen) < length chosen → lowestOnCycle rows reads chosen < length chosen
+  unfolding lowestOnCycle
+  some-cycle h = pick (lt-or-le (lowestOnCycle rows reads chosen) (length chosen)) (λ l. l) none
     where
-      none : length chosen ≤ lowestCyclic rows reads chosen → lowestCyclic rows reads chosen < length chosen
+      none : length chosen ≤ lowestOnCycle rows reads chosen → lowestOnCycle rows reads chosen < length chosen
       none l =
-          let e = none-offends (onCycle (before f A) A) chosen (isCyclic rows reads chosen) as-numbered l in
+          let e = none-offends (onCycle (before f A) A) chosen (isOnCycle rows reads chosen) as-numbered l in
           let z = order-length f A (p .ascends) (acyclic-of f A e) in
           absurd (omega (arith, many-placed, length-map chosen ℓ))
 
   pub order-refuses : length (ordered rows reads chosen) < length chosen
-      → judgeOrder #V f A ≡ refused 13 (getD chosen (lowestCyclic rows reads chosen) 0)
-  unfolding lowestCyclic
+      → judgeOrder #V f A ≡ refused 13 (getD chosen (lowestOnCycle rows reads chosen) 0)
+  unfolding lowestOnCycle
   order-refuses h =
-      let (others, e) = offender (onCycle (before f A) A) chosen (isCyclic rows reads chosen) as-numbered (some-cycle h) in rw e
+      let (others, e) = offender (onCycle (before f A) A) chosen (isOnCycle rows reads chosen) as-numbered (some-cycle h) in rw e
 
   pub order-passes : length chosen ≤ length (ordered rows reads chosen) → judgeOrder #V f A ≡ judgeCount #V f A
   order-passes h = let e = all-placed f A (omega (arith, many-placed, length-map chosen ℓ)) in rw e
 
-  pub order-left : {lent left : List ℕ} {count : ℕ} → Filled rows reads chosen lent left count → left ≡ inFront (wordsOfOrder f A) lent
+  pub order-left : {lent left : List ℕ} {count : ℕ} → OrderFilled rows reads chosen lent left count → left ≡ inFront (wordsOfOrder f A) lent
   order-left {lent} d = d .filled ∙ ap (λ o. inFront o lent) (sym order-is)

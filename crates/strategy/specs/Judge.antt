@@ -27,7 +27,7 @@ use Rattle.written.specs.Tables.{formulaIn}
 use Rattle.entries.specs.Front.{inFront}
 use Rattle.verdict.specs.declared.Judged.{Judged}
 use Rattle.verdict.specs.declared.Judged.the-variants as answer
-use Rattle.verdict.specs.Verdict.{acceptedWith, answerOf}
+use Rattle.verdict.specs.Verdict.{acceptedWith, asJudged}
 
 -- the proposal that a strategy section makes
 abbrev pub proposalOf : List ℕ → List Label
@@ -38,7 +38,7 @@ proposalIn words l = proposalOf (chosenIn words l)
 
 abbrev pub judgedAs : List ℕ → Checked → Judged
 judgedAs words (Refused r) = answer.Refused r
-judgedAs words (Sound l) = answerOf l (judge (l .variables) (formulaIn words l) (proposalIn words l))
+judgedAs words (Sound l) = asJudged l (judge (l .variables) (formulaIn words l) (proposalIn words l))
 
 -- the answer to any words
 unfoldable pub judgedOf : List ℕ → Judged
@@ -108,8 +108,8 @@ pub record Covered (rows reads chosen : List ℕ) (#V #N : ℕ) : Type 0 where
 module _ (rows reads chosen : List ℕ) (l : Layout) (lent left : List ℕ) (r : Judged) where
   -- a judgement of parts: its answer, and what it leaves in the words lent for the order
   pub record JudgedBy (j : Judgement) : Type 0 where
-    pub answered : r ≡ answerOf l j
-    pub left-so : left ≡ leftBy (answerOf l j) (λ _. wordsOfOrder (formulaOf rows reads) (proposalOf chosen)) lent
+    pub answered : r ≡ asJudged l j
+    pub left-so : left ≡ leftBy (asJudged l j) (λ _. wordsOfOrder (formulaOf rows reads) (proposalOf chosen)) lent
 
   -- the last two checks, and all five
   abbrev pub OrderedParts : Type 0

@@ -18,7 +18,7 @@ use Rattle.entries.specs.First.{first}
 use Rattle.rows.specs.Rows.{takenBefore, keepsRules, breaksRules, isDeep}
 use Rattle.entries.specs.Entries.{falls, beyond}
 use Rattle.sections.specs.Sections.{halt, unless, start, variablesAt, readsAt, rowsAt, strategyAt, endAt}
-use Rattle.table.specs.Table.{partAt, readsOf, sections, layout, readsIn, rowsIn, answerOf, checked}
+use Rattle.table.specs.Table.{partAt, readsOf, sections, layout, readsIn, rowsIn, asChecked, checked}
 use Rattle.entries.proofs.First.{first-none}
 use Rattle.sections.proofs.Opened.{passed, unless-of, of-unless, through, Opened, behind, held, of-held}
 use Rattle.sections.proofs.ThirdSection.{all-keep, all-taken}
@@ -358,7 +358,7 @@ module _ (words : List ℕ) where
         le-ltb (#V + #R + 4 * #N + #S + 4) (length words) (omega arith),
       )
 
-  sound-of : (s : Step) (l : Layout) → answerOf s ≡ Sound l → (d : Cursor) × (s ≡ Next d) × (l ≡ layout (d .variables) (d .reads) (d .rows) (d .count))
+  sound-of : (s : Step) (l : Layout) → asChecked s ≡ Sound l → (d : Cursor) × (s ≡ Next d) × (l ≡ layout (d .variables) (d .reads) (d .rows) (d .count))
   sound-of (Halt r) l e = let z : _≡_ {A = ℕ} 0 1 = cc in absurd (omega arith)
   sound-of (Next d) l e = (d, refl, (cc))
 
@@ -372,4 +372,4 @@ module _ (words : List ℕ) where
 
   pub laid : (l : Layout) → Laid words l → checked words ≡ Sound l
   unfolding checked
-  laid l h = rw (h .of-counts) (ap answerOf (of-sections (l .variables) (l .reads) (l .rows) (l .chosen) (rw (h .of-counts) at h)))
+  laid l h = rw (h .of-counts) (ap asChecked (of-sections (l .variables) (l .reads) (l .rows) (l .chosen) (rw (h .of-counts) at h)))

@@ -53,10 +53,10 @@ module _ (words : List ℕ) (l : Layout) where
   abbrev pub chosenIn : List ℕ
   chosenIn = take (l .chosen) (drop (l .«chosen_at») words)
 
-abbrev pub answerOf : Step → Checked
-answerOf (Halt r) = Refused r
-answerOf (Next c) = Sound (layout (c .variables) (c .reads) (c .rows) (c .count))
+abbrev pub asChecked : Step → Checked
+asChecked (Halt r) = Refused r
+asChecked (Next c) = Sound (layout (c .variables) (c .reads) (c .rows) (c .count))
 
 -- what the words are found to be
 unfoldable pub checked : List ℕ → Checked
-checked words = answerOf (sections words)
+checked words = asChecked (sections words)

@@ -2,7 +2,7 @@
 // passed.
 ghost use mathlib.Core.Path.{_≡_};
 ghost use Prim.Native.Nat.{_≤_};
-ghost use Rattle.table.specs.Table.{sections, answerOf, checked};
+ghost use Rattle.table.specs.Table.{sections, asChecked, checked};
 ghost use Rattle.paper.specs.Limits.{mostReads, mostRows, mostVariables};
 use sections::Cursor;
 use sections::Refusal;
@@ -56,7 +56,7 @@ fn sections(words: &[u16]) -> Step
 // What the last cursor found, with the positions that follow from it.
 fn laid_out(c: Cursor) -> Checked
     requires { ⌜ (c .variables ≤ mostVariables) × (c .reads ≤ mostReads) × (c .rows ≤ mostRows) ⌝ }
-    ensures { λ r. ⌜ r ≡ answerOf (Step.Next c) ⌝ }
+    ensures { λ r. ⌜ r ≡ asChecked (Step.Next c) ⌝ }
 {
     Checked::Sound(Layout {
         variables: c.variables,

@@ -27,9 +27,9 @@ IsRefusal (answer.Accepted a) = ⊥
 IsRefusal (answer.Refused x) = Unit {0}
 
 -- a judgement of the formula of words laid out so, as an answer
-abbrev pub answerOf : Layout → Judgement → Judged
-answerOf l (accepted v n s t) = acceptedWith l t
-answerOf l (refused number place) = refusedAt number place
+abbrev pub asJudged : Layout → Judgement → Judged
+asJudged l (accepted v n s t) = acceptedWith l t
+asJudged l (refused number place) = refusedAt number place
 
 -- 10: the k-th chosen label is no candidate
 abbrev pub isStranger : List ℕ → List ℕ → ℕ → Bool

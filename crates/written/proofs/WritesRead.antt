@@ -1,4 +1,4 @@
--- Reading back: of rows that write a formula, the formula read from them is that formula, if enough levels are allowed.
+-- Fold back: of rows that write a formula, the formula read from them is that formula, if enough levels are allowed.
 use Prim.Native.Nat.{ℕ, zero, suc, _+_, _-_, _<_, _≤_}
 use native.Mathlib.Omega.{arith}
 use mathlib.Core.Path.{_≡_, ap}

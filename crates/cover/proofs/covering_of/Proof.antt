@@ -4,7 +4,7 @@ use borrow.Author.Needs.{needs}
 use Prim.Native.Nat.{_-_}
 use native.Mathlib.Omega.{arith}
 use Rattle.entries.proofs.First.{first-le}
-use Rattle.cover.specs.Words.{bitAt}
+use Rattle.cover.specs.Masks.{bitAt}
 use Rattle.cover.proofs.Blocks.{Passed, passed-none, passing-stops, passing-goes-on, passing-ends-doubled, passing-ends-covered}
 use Rattle.cover.proofs.covering_of.Statement.{statement}
 use Rattle.cover.proofs.covering_of.Tie as tie
@@ -18,8 +18,8 @@ abbrev μ-loop : tie.MeasureT-loop
 loop-holds : tie.Need-loop-holds Inv-loop μ-loop
 loop-holds c = passed-none
 
-words-of-requires : tie.Need-words-of-requires Inv-loop μ-loop
-words-of-requires c κs = search needs
+masks-of-requires : tie.Need-masks-of-requires Inv-loop μ-loop
+masks-of-requires c κs = search needs
 
 sub-lesser : tie.Need-sub-lesser Inv-loop μ-loop
 sub-lesser c = omega arith
@@ -37,7 +37,7 @@ returns : tie.Need-returns Inv-loop μ-loop
 returns c =
     let t = c .before .before .before in
     let l = t .before .before in
-    passing-stops (l .before .loop .inv) (l .loop-test .taken) (t .lesser .ensures) (t .before .words-of .ensures) (c .before .lowest-bit .ensures)
+    passing-stops (l .before .loop .inv) (l .loop-test .taken) (t .lesser .ensures) (t .before .masks-of .ensures) (c .before .lowest-bit .ensures)
     (c .if1 .taken)
 
 lowest-bit-requires-2 : tie.Need-lowest-bit-requires-2 Inv-loop μ-loop
@@ -46,7 +46,7 @@ lowest-bit-requires-2 c κs = omega (arith, c .before .before .before .lesser .e
 lower-requires : tie.Need-lower-requires Inv-loop μ-loop
 lower-requires c κs =
     let t = c .before .before .before .before in
-    omega (arith, t .lesser .ensures, c .lowest-bit2 .ensures, first-le (bitAt (t .before .words-of .result .twice)) (t .lesser .result))
+    omega (arith, t .lesser .ensures, c .lowest-bit2 .ensures, first-le (bitAt (t .before .masks-of .result .twice)) (t .lesser .result))
 
 add-v : tie.Need-add-v Inv-loop μ-loop
 add-v c = omega (arith, c .before .before .before .before .before .lesser .ensures)
@@ -62,7 +62,7 @@ loop-again c =
     let i = c .before .before in
     let t = i .before .before .before in
     let l = t .before .before in
-    passing-goes-on (l .before .loop .inv) (l .loop-test .taken) (t .lesser .ensures) (t .before .words-of .ensures) (i .before .lowest-bit .ensures)
+    passing-goes-on (l .before .loop .inv) (l .loop-test .taken) (t .lesser .ensures) (t .before .masks-of .ensures) (i .before .lowest-bit .ensures)
     (i .if1 .left) (c .before .lowest-bit2 .ensures) (c .lower .ensures)
 
 returns-2 : tie.Need-returns-2 Inv-loop μ-loop
@@ -78,7 +78,7 @@ covering-of-spec =
     Inv-loop
     μ-loop
     loop-holds
-    words-of-requires
+    masks-of-requires
     sub-lesser
     lesser-requires
     lowest-bit-requires

@@ -5,7 +5,7 @@ use lib.ListN.{length}
 use Rattle.paper.specs.declared.Label.{Label}
 use Rattle.rows.specs.Rows.{fromOf}
 use Rattle.net.specs.Prior.{prior}
-use Rattle.fingers.specs.Places.{Place}
+use Rattle.fingers.specs.Spots.{IsSpot}
 use Rattle.fingers.proofs.GoesOn.{stop-in}
 use Rattle.cycles.proofs.Itself.{below, below-none, below-read, outer-place, outer-lower, below-outer, own-place, below-own}
 use borrow.Author.Needs.{needs}
@@ -14,7 +14,7 @@ use Rattle.cycles.proofs.is_before_itself.Tie as tie
 
 abbrev Inv-loop : tie.InvT-loop
 Inv-loop rows reads chosen net n j v star₀ star =
-    Place rows chosen n (star .0) (fromOf rows (star .0)) (length chosen) × (below rows reads chosen j (star .0) ≡ prior rows reads chosen j j)
+    IsSpot rows chosen n (star .0) (fromOf rows (star .0)) (length chosen) × (below rows reads chosen j (star .0) ≡ prior rows reads chosen j j)
 
 abbrev μ-loop : tie.MeasureT-loop
 μ-loop rows reads chosen net n j v star₀ star = star .0

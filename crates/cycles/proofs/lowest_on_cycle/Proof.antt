@@ -7,10 +7,10 @@ use lib.ListN.{length}
 use borrow.Author.Count.{below-more}
 use Rattle.paper.proofs.Bools.{not-so}
 use Rattle.entries.proofs.First.{first-same}
-use Rattle.cycles.specs.Cyclic.{isCyclic, lowestCyclic}
+use Rattle.cycles.specs.Cyclic.{isOnCycle, lowestOnCycle}
 use Rattle.fingers.specs.Graph.{free}
-use Rattle.cycles.specs.Path.{ringed, Walked, Best}
-use Rattle.fingers.specs.Places.{graphOf}
+use Rattle.cycles.specs.Path.{isOnRing, Walked, Best}
+use Rattle.fingers.specs.Spots.{graphOf}
 use Rattle.fingers.proofs.Tests.{never}
 use Rattle.fingers.proofs.Seeking.{started}
 use Rattle.cycles.proofs.Steps.{empty-first, best-start, best-first}
@@ -67,7 +67,7 @@ loop-again c =
     (omega (arith, l), t .path, t .best-so-far, below-more _ _ (λ i hi. not-so _ (λ e. never _ (t .grown i (omega (arith, l)) e) (v .3 i hi))) (t .taken))
 
 returns : tie.Need-returns Inv-loop μ-loop
-unfolding lowestCyclic isCyclic ringed
+unfolding lowestOnCycle isOnCycle isOnRing
 returns c =
     let v = c .before .loop .inv in
     best-first _ _ _ _ _ _ (v .1) (v .2) (λ i hi. v .3 i (omega (arith, c .loop-test .left))) ∙ first-same _ _ _ (λ k h. refl)

@@ -13,7 +13,7 @@ use Rattle.rows.proofs.Walks.{value-none, value-FALSE, value-test, value-candid
 use Rattle.rows.proofs.Walks.{row-known, Walking, walk-begins, walk-on, walk-turns, walk-ends}
 use Rattle.keys.specs.declared.Distinct.{Distinct}
 use Rattle.marks.specs.Marks.{isMarked}
-use Rattle.keys.specs.Keys.{limit, leafKeys, joinKeys, keysReading, keysAt}
+use Rattle.keys.specs.Keys.{limit, leafKeys, joinKeys, keysFold, keysAt}
 use Rattle.keys.proofs.keys_of.Reads as keys-of
 use Rattle.keys.proofs.keys_of.Kinds as kinds
 use Rattle.keys.proofs.+keys_of.Lts-keys_of as lts
@@ -46,12 +46,12 @@ module _ (rows marks : List ℕ) (r : Distinct) where
 
   -- with no level left, and at a row without expressions under it
   gives-none : (left i : ℕ) → left ≡ 0 → r ≡ leafKeys (isMarked marks i) → Gives left i
-  gives-none left i none d = gives-leaf left i d (value-none (keysReading marks) rows left i none)
+  gives-none left i none d = gives-leaf left i d (value-none (keysFold marks) rows left i none)
 
   gives-lone : (left i kind : ℕ) → (left ≡ 0 → ⊥) → kind ≡ kindOf rows i → kind < 3 → r ≡ leafKeys (isMarked marks i) → Gives left i
-  gives-lone left i zero deep e low d = gives-leaf left i d (value-FALSE (keysReading marks) rows left i deep (sym e))
-  gives-lone left i (suc zero) deep e low d = gives-leaf left i d (value-test (keysReading marks) rows left i deep (sym e))
-  gives-lone left i (suc (suc zero)) deep e low d = gives-leaf left i d (value-candidate (keysReading marks) rows left i deep (sym e))
+  gives-lone left i zero deep e low d = gives-leaf left i d (value-FALSE (keysFold marks) rows left i deep (sym e))
+  gives-lone left i (suc zero) deep e low d = gives-leaf left i d (value-test (keysFold marks) rows left i deep (sym e))
+  gives-lone left i (suc (suc zero)) deep e low d = gives-leaf left i d (value-candidate (keysFold marks) rows left i deep (sym e))
   gives-lone left i (suc (suc (suc kind))) deep e low d = absurd (omega arith)
 
 abbrev μ : Measures 2 kinds.ps ℕ
@@ -64,7 +64,7 @@ abbrev below : ℕ → In 2 kinds.ps
 below t = and 2 kinds.ps (falls 2 kinds.ps _<_ μ t) keys-of.Pre
 
 abbrev Inv : lts.InvT-loop
-Inv rows marks n left kind conj acc₀ k₀ m₀ acc k m = Walking (keysReading marks) rows n left conj acc₀ m₀ k₀ acc m k × (acc .more ≤ limit)
+Inv rows marks n left kind conj acc₀ k₀ m₀ acc k m = Walking (keysFold marks) rows n left conj acc₀ m₀ k₀ acc m k × (acc .more ≤ limit)
 
 abbrev μ-loop : lts.MeasureT-loop
 μ-loop rows marks n left kind conj acc₀ k₀ m₀ acc k m = m

@@ -5,13 +5,13 @@ use mathlib.Core.List.{map}
 use lib.ListN.{length, take, getD}
 use lib.Seq.{take-all}
 use Rattle.paper.specs.Formula.{ℓ}
-use Rattle.marks.specs.Marks.{MarksOf}
+use Rattle.marks.specs.Marks.{MarkedExactly}
 use Rattle.marks.proofs.Marking.{marked-none, marked-more, bits-none, bits-more}
 use Rattle.marks.proofs.marks_of.Statement.{statement}
 use Rattle.marks.proofs.marks_of.Tie as tie
 
 abbrev Inv-loop : tie.InvT-loop
-Inv-loop chosen marks₀ k₀ marks k = (k ≤ length chosen) × MarksOf (map ℓ (take k chosen)) marks
+Inv-loop chosen marks₀ k₀ marks k = (k ≤ length chosen) × MarkedExactly (map ℓ (take k chosen)) marks
 
 abbrev μ-loop : tie.MeasureT-loop
 μ-loop chosen marks₀ k₀ marks k = length chosen - k

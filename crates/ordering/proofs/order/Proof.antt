@@ -6,7 +6,7 @@ use mathlib.Core.Path.{refl}
 use lib.ListN.{length}
 use Rattle.ordering.specs.Reported.{ordered}
 use Rattle.ordering.specs.Placing.{Lowest, Placing}
-use Rattle.fingers.specs.Places.{graphOf}
+use Rattle.fingers.specs.Spots.{graphOf}
 use Rattle.ordering.proofs.Greedy.{state-first, placing-first, state-after, not-full, placing-more, placing-done}
 use Rattle.fingers.proofs.Seeking.{started}
 use borrow.Author.Needs.{needs}

@@ -2,7 +2,7 @@
 use mathlib.Core.Bool.{Bool, true, false, _&&_, _||_}
 use mathlib.Core.List.{List}
 use Rattle.paper.specs.Formula.{Label, Variable, has, alike, Formula}
-use Rattle.paper.specs.Structure.Reading.{Reading, readOf}
+use Rattle.paper.specs.Structure.Fold.{Fold, foldOf}
 
 -- there is a branch; each branch has a chosen candidate of the variable; some branch has one; some branch has two or more
 pub record Cover : Type 0 where
@@ -33,8 +33,8 @@ abbrev pub joinCover : Bool → Cover → Cover → Cover
 joinCover true a b = bothCover (a .live) (b .live) a b
 joinCover false a b = cover (a .live || b .live) (a .always && b .always) (a .ever || b .ever) (a .twice || b .twice)
 
-abbrev pub coverReading : List Label → Variable → Reading Cover
-coverReading A v = record {
+abbrev pub coverFold : List Label → Variable → Fold Cover
+coverFold A v = record {
   atFALSE = λ l. leafCover false;
   atTest = λ l. leafCover false;
   atCandidate = λ l w. leafCover (has A l && alike v w);
@@ -43,4 +43,4 @@ coverReading A v = record {
 }
 
 abbrev pub coverOf : List Label → Variable → Formula → Cover
-coverOf A v f = readOf (coverReading A v) f
+coverOf A v f = foldOf (coverFold A v) f

@@ -4,7 +4,7 @@ use Prim.Native.Nat.{ℕ, _+_, _*_}
 use mathlib.Core.Bool.{Bool, true, false, cond, _&&_, _||_}
 use mathlib.Core.List.{List}
 use Rattle.paper.specs.Formula.{Label, has, Formula, Formulas, only, _⨾_}
-use Rattle.paper.specs.Structure.Reading.{Reading, readOf}
+use Rattle.paper.specs.Structure.Fold.{Fold, foldOf}
 
 -- how many keys are not empty, and whether the empty key is one of them
 pub record KeyCount : Type 0 where
@@ -30,8 +30,8 @@ abbrev pub joinKeys : Bool → KeyCount → KeyCount → KeyCount
 joinKeys true a b = keyCount (a .more * number b + cond (a .empty) (b .more) 0) (a .empty && b .empty)
 joinKeys false a b = keyCount (a .more + b .more) (a .empty || b .empty)
 
-abbrev pub keyReading : List Label → Reading KeyCount
-keyReading A = record {
+abbrev pub keyFold : List Label → Fold KeyCount
+keyFold A = record {
   atFALSE = λ l. leafKeys (has A l);
   atTest = λ l. leafKeys (has A l);
   atCandidate = λ l v. leafKeys (has A l);
@@ -40,7 +40,7 @@ keyReading A = record {
 }
 
 abbrev pub keyCountOf : List Label → Formula → KeyCount
-keyCountOf A f = readOf (keyReading A) f
+keyCountOf A f = foldOf (keyFold A) f
 
 -- the number of distinct keys of a formula, and of a conjunction's children
 abbrev pub numberOf : List Label → Formula → ℕ

@@ -25,19 +25,19 @@ abbrev pub holdsAll : List Label → List Label → Bool
 holdsAll b S = allOf (has b) S
 
 abbrev mutual
-  pub someHolds : Formula → List Label → Bool
-  someHolds (FALSE l) S = holdsAll (l ∷ []) S
-  someHolds (test s) S = holdsAll (s .label ∷ []) S
-  someHolds (candidate l v s) S = holdsAll (l ∷ []) S
-  someHolds (conjunction l fs) S = eachHolds fs S
-  someHolds (disjunction l fs) S = anyHolds fs S
-  someHolds (exists l s f) S = someHolds f S
-  someHolds (IF l s f g) S = someHolds f S || someHolds g S
+  pub someBranchHolds : Formula → List Label → Bool
+  someBranchHolds (FALSE l) S = holdsAll (l ∷ []) S
+  someBranchHolds (test s) S = holdsAll (s .label ∷ []) S
+  someBranchHolds (candidate l v s) S = holdsAll (l ∷ []) S
+  someBranchHolds (conjunction l fs) S = eachHolds fs S
+  someBranchHolds (disjunction l fs) S = anyHolds fs S
+  someBranchHolds (exists l s f) S = someBranchHolds f S
+  someBranchHolds (IF l s f g) S = someBranchHolds f S || someBranchHolds g S
 
   pub eachHolds : Formulas → List Label → Bool
-  eachHolds (only f) S = someHolds f S
-  eachHolds (f ⨾ fs) S = anyOf (λ p. someHolds f (p .left) && eachHolds fs (p .right)) (parts S)
+  eachHolds (only f) S = someBranchHolds f S
+  eachHolds (f ⨾ fs) S = anyOf (λ p. someBranchHolds f (p .left) && eachHolds fs (p .right)) (parts S)
 
   pub anyHolds : Formulas → List Label → Bool
-  anyHolds (only f) S = someHolds f S
-  anyHolds (f ⨾ fs) S = someHolds f S || anyHolds fs S
+  anyHolds (only f) S = someBranchHolds f S
+  anyHolds (f ⨾ fs) S = someBranchHolds f S || anyHolds fs S

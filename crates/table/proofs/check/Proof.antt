@@ -1,6 +1,6 @@
 -- The answer is that of the sections, and the counts that passed are small.
 use mathlib.Core.Path.{sym, ap, _∙_}
-use Rattle.table.specs.Table.{answerOf, checked}
+use Rattle.table.specs.Table.{asChecked, checked}
 use Rattle.table.proofs.Laid.{counts-small}
 use borrow.Author.Needs.{needs}
 use Rattle.table.proofs.check.Statement.{statement}
@@ -20,11 +20,11 @@ enum-known-found-2 c = search needs
 
 returns : tie.Need-returns
 unfolding checked
-returns c = c .laid-out .ensures ∙ ap answerOf (sym (c .before .before .found .given .1) ∙ c .before .before .before .before .sections .ensures)
+returns c = c .laid-out .ensures ∙ ap asChecked (sym (c .before .before .found .given .1) ∙ c .before .before .before .before .sections .ensures)
 
 returns-2 : tie.Need-returns-2
 unfolding checked
-returns-2 c = ap answerOf (sym (c .before .found2 .given .1) ∙ c .before .before .before .sections .ensures)
+returns-2 c = ap asChecked (sym (c .before .found2 .given .1) ∙ c .before .before .before .sections .ensures)
 
 pub check-spec : {M : Type 1} → statement M
 check-spec =

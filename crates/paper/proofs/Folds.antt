@@ -1,4 +1,4 @@
--- Laws of readings (specs/Structure/Reading.antt). A map that keeps the leaves of a formula, the units and the joins takes
+-- Laws of readings (specs/Structure/Fold.antt). A map that keeps the leaves of a formula, the units and the joins takes
 -- one reading of it to another; a reading whose joins are associative and begin at a unit joins children from the right;
 -- and branches are such a reading.
 use mathlib.Core.Path.{_≡_, refl, sym, _∙_}
@@ -7,7 +7,7 @@ use mathlib.Core.List.{List, [], _∷_, _++_, append-assoc}
 use Rattle.paper.specs.Lists.{pairs}
 use Rattle.paper.specs.Formula.{Label, Variable, Formula, Formulas, FALSE, test, candidate, conjunction, disjunction, exists, IF, only, _⨾_}
 use Rattle.paper.specs.Branch.{branches, ofEach, ofAny}
-use Rattle.paper.specs.Structure.Reading.{Reading, readOf, readAll}
+use Rattle.paper.specs.Structure.Fold.{Fold, foldOf, foldAll}
 use Rattle.paper.proofs.Lists.{pairs-assoc, pairs-unit}
 
 -- one branch with nothing on it, or no branch; one branch of either side joined, or the branches of both
@@ -19,8 +19,8 @@ abbrev pub branchJoin : Bool → List (List Label) → List (List Label) → Lis
 branchJoin true bs cs = pairs bs cs
 branchJoin false bs cs = bs ++ cs
 
-abbrev pub branchReading : Reading (List (List Label))
-branchReading = record {
+abbrev pub branchFold : Fold (List (List Label))
+branchFold = record {
   atFALSE = λ l. (l ∷ []) ∷ [];
   atTest = λ l. (l ∷ []) ∷ [];
   atCandidate = λ l v. (l ∷ []) ∷ [];
@@ -77,7 +77,7 @@ module _ {F T F′ T′ : Label → Type 0} {C C′ : Label → Variable → Typ
     leaves-map-of (only f) k = leaves-map f k
     leaves-map-of (f ⨾ fs) k = (leaves-map f (k .0), leaves-map-of fs (k .1))
 
-module _ {A B : Type 0} (r : Reading A) (q : Reading B) (h : A → B) where
+module _ {A B : Type 0} (r : Fold A) (q : Fold B) (h : A → B) where
   -- h takes what r has at the leaves of a formula to what q has there
   abbrev pub Keeps : Formula → Type 0
   Keeps = AtLeaves (λ l. h (r .atFALSE l) ≡ q .atFALSE l) (λ l. h (r .atTest l) ≡ q .atTest l) (λ l v. h (r .atCandidate l v) ≡ q .atCandidate l v)
@@ -91,7 +91,7 @@ module _ {A B : Type 0} (r : Reading A) (q : Reading B) (h : A → B) where
     joined c {x} {y} e d = let j = joins c x y in cc
 
     mutual
-      pub carried : (f : Formula) → Keeps f → h (readOf r f) ≡ readOf q f
+      pub carried : (f : Formula) → Keeps f → h (foldOf r f) ≡ foldOf q f
       carried (FALSE l) k = k
       carried (test s) k = k
       carried (candidate l v s) k = k
@@ -100,45 +100,45 @@ module _ {A B : Type 0} (r : Reading A) (q : Reading B) (h : A → B) where
       carried (exists l s f) k = joined false (units false) (carried f k)
       carried (IF l s f g) k = joined false (joined false (units false) (carried f (k .0))) (carried g (k .1))
 
-      pub carried-all : (c : Bool) {a : A} {b : B} → h a ≡ b → (fs : Formulas) → KeepsOf fs → h (readAll r c a fs) ≡ readAll q c b fs
+      pub carried-all : (c : Bool) {a : A} {b : B} → h a ≡ b → (fs : Formulas) → KeepsOf fs → h (foldAll r c a fs) ≡ foldAll q c b fs
       carried-all c e (only f) k = joined c e (carried f k)
       carried-all c e (f ⨾ fs) k = carried-all c (joined c e (carried f (k .0))) fs (k .1)
 
     -- where h keeps the leaves at every label
     module _ (no : (l : Label) → h (r .atFALSE l) ≡ q .atFALSE l) (tested : (l : Label) → h (r .atTest l) ≡ q .atTest l)
         (chosen : (l : Label) (v : Variable) → h (r .atCandidate l v) ≡ q .atCandidate l v) where
-      pub carried-everywhere : (f : Formula) → h (readOf r f) ≡ readOf q f
+      pub carried-everywhere : (f : Formula) → h (foldOf r f) ≡ foldOf q f
       carried-everywhere f = carried f (at-leaves _ _ _ no tested chosen f)
 
 -- the children joined from the right
-abbrev pub joinedFromRight : {A : Type 0} → Reading A → Bool → Formulas → A
-joinedFromRight r c (only f) = readOf r f
-joinedFromRight r c (f ⨾ fs) = r .join c (readOf r f) (joinedFromRight r c fs)
+abbrev pub joinedFromRight : {A : Type 0} → Fold A → Bool → Formulas → A
+joinedFromRight r c (only f) = foldOf r f
+joinedFromRight r c (f ⨾ fs) = r .join c (foldOf r f) (joinedFromRight r c fs)
 
-module _ {A : Type 0} (r : Reading A) (c : Bool) (assoc : (x y z : A) → r .join c (r .join c x y) z ≡ r .join c x (r .join c y z)) where
-  pub from-the-right : (a : A) (fs : Formulas) → readAll r c a fs ≡ r .join c a (joinedFromRight r c fs)
+module _ {A : Type 0} (r : Fold A) (c : Bool) (assoc : (x y z : A) → r .join c (r .join c x y) z ≡ r .join c x (r .join c y z)) where
+  pub from-the-right : (a : A) (fs : Formulas) → foldAll r c a fs ≡ r .join c a (joinedFromRight r c fs)
   from-the-right a (only f) = refl
-  from-the-right a (f ⨾ fs) = from-the-right (r .join c a (readOf r f)) fs ∙ assoc a (readOf r f) (joinedFromRight r c fs)
+  from-the-right a (f ⨾ fs) = from-the-right (r .join c a (foldOf r f)) fs ∙ assoc a (foldOf r f) (joinedFromRight r c fs)
 
   -- with no more before them than the unit
-  pub from-the-unit : ((x : A) → r .join c (r .unit c) x ≡ x) → (fs : Formulas) → readAll r c (r .unit c) fs ≡ joinedFromRight r c fs
+  pub from-the-unit : ((x : A) → r .join c (r .unit c) x ≡ x) → (fs : Formulas) → foldAll r c (r .unit c) fs ≡ joinedFromRight r c fs
   from-the-unit unit fs = from-the-right (r .unit c) fs ∙ unit (joinedFromRight r c fs)
 
 -- branches are a reading
 mutual
-  pub branches-read : (f : Formula) → branches f ≡ readOf branchReading f
+  pub branches-read : (f : Formula) → branches f ≡ foldOf branchFold f
   branches-read (FALSE l) = refl
   branches-read (test s) = refl
   branches-read (candidate l v s) = refl
-  branches-read (conjunction l fs) = each-read fs ∙ sym (from-the-unit branchReading true pairs-assoc pairs-unit fs)
-  branches-read (disjunction l fs) = any-read fs ∙ sym (from-the-unit branchReading false append-assoc (λ bs. refl) fs)
+  branches-read (conjunction l fs) = each-read fs ∙ sym (from-the-unit branchFold true pairs-assoc pairs-unit fs)
+  branches-read (disjunction l fs) = any-read fs ∙ sym (from-the-unit branchFold false append-assoc (λ bs. refl) fs)
   branches-read (exists l s f) = branches-read f
   branches-read (IF l s f g) = let p = branches-read f in let q = branches-read g in cc
 
-  pub each-read : (fs : Formulas) → ofEach fs ≡ joinedFromRight branchReading true fs
+  pub each-read : (fs : Formulas) → ofEach fs ≡ joinedFromRight branchFold true fs
   each-read (only f) = branches-read f
   each-read (f ⨾ fs) = let p = branches-read f in let q = each-read fs in cc
 
-  pub any-read : (fs : Formulas) → ofAny fs ≡ joinedFromRight branchReading false fs
+  pub any-read : (fs : Formulas) → ofAny fs ≡ joinedFromRight branchFold false fs
   any-read (only f) = branches-read f
   any-read (f ⨾ fs) = let p = branches-read f in let q = any-read fs in cc

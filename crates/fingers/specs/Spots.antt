@@ -10,7 +10,7 @@ use lib.ListN.{length, getD, take, drop}
 use Rattle.paper.specs.Limits.{mostReads, slots}
 use Rattle.paper.specs.Lists.{anyOf}
 use Rattle.rows.specs.Rows.{kindOf, argOf, fromOf}
-use Rattle.net.specs.Prior.{guardOf, around, isFrozen, together, variableOf, prior}
+use Rattle.net.specs.Prior.{guardOf, around, isFrozen, shareBranchIn, variableOf, prior}
 use Rattle.net.specs.Net.{firstWith}
 use Rattle.fingers.specs.declared.Found.{Found}
 use Rattle.fingers.specs.Graph.{Graph, Next}
@@ -33,11 +33,11 @@ ahead rows chosen s r k = cond (eqb s 0) 0 (packed s (stopOf rows s - r) (length
 
 -- k is a number that is open, and its label shares a branch with that of j
 unfoldable pub calls : List ℕ → List ℕ → (ℕ → Bool) → ℕ → ℕ → Bool
-calls rows chosen isOpen k j = ltb k (length chosen) && (isOpen k && together rows (getD chosen k 0) (getD chosen j 0))
+calls rows chosen isOpen k j = ltb k (length chosen) && (isOpen k && shareBranchIn rows (getD chosen k 0) (getD chosen j 0))
 
 -- the labels from one up to another share no branch with that of j
 abbrev pub Apart : List ℕ → List ℕ → ℕ → ℕ → ℕ → Type 0
-Apart rows chosen j from to = (x : ℕ) → from ≤ x → x < to → together rows x (getD chosen j 0) ≡ false
+Apart rows chosen j from to = (x : ℕ) → from ≤ x → x < to → shareBranchIn rows x (getD chosen j 0) ≡ false
 
 -- what a look at a number gives: an answer, and labels that share no branch with that of j
 pub record Looked (rows chosen : List ℕ) (answer : Bool) (j from to : ℕ) (hit : Bool) : Type 0 where
@@ -61,7 +61,7 @@ pub record AtStart (rows chosen : List ℕ) (m : ℕ) (old finger : List ℕ) : 
   pub others : (j : ℕ) → m ≤ j → getD finger j 0 ≡ getD old j 0
 
 -- (s, r, k) is a place
-pub record Place (rows chosen : List ℕ) (#N s r k : ℕ) : Type 0 where
+pub record IsSpot (rows chosen : List ℕ) (#N s r k : ℕ) : Type 0 where
   pub star : s < #N
   pub kind : 0 < s → kindOf rows s ≡ 1
   pub read : 0 < s → r ≤ mostReads
@@ -77,8 +77,8 @@ module _ (rows reads chosen : List ℕ) where
 
   -- The place after (s, r, k), which has a star: the next number of the variable; past the last, the first number of the next
   -- read; past the last read, the star of the guard around, before all that it reads.
-  unfoldable pub placeAfter : ℕ → ℕ → ℕ → ℕ × ℕ × ℕ
-  placeAfter s r k =
+  unfoldable pub spotAfter : ℕ → ℕ → ℕ → ℕ × ℕ × ℕ
+  spotAfter s r k =
       cond (ltb k (length chosen)) (s, r, firstWith rows chosen (variableOf rows chosen k) (k + 1))
       (cond (ltb r (stopOf rows s)) (s, r + 1, firstWith rows chosen (getD reads r 0) 0) (guardOf rows s, fromOf rows (guardOf rows s), length chosen))
 
@@ -87,7 +87,7 @@ module _ (rows reads chosen : List ℕ) where
   abbrev pub answerAt : Bool → Bool → (ℕ × ℕ × ℕ → Found) → ℕ → ℕ → ℕ → Found
   answerAt true calling later s r k = record { finger = 0; number = length chosen }
   answerAt false true later s r k = record { finger = packed s r k; number = k }
-  answerAt false false later s r k = later (placeAfter s r k)
+  answerAt false false later s r k = later (spotAfter s r k)
 
   -- what a search for j answers within so many places
   unfoldable pub soughtWithin : (ℕ → Bool) → ℕ → ℕ → ℕ × ℕ × ℕ → Found
@@ -101,21 +101,21 @@ module _ (rows reads chosen : List ℕ) where
   module _ (#N : ℕ) where
     -- (s′, r′, k′) is the place after (s, r, k): the same lies from both on, but for k
     pub record After (s r k s′ r′ k′ : ℕ) : Type 0 where
-      pub place : Place rows chosen #N s′ r′ k′
+      pub place : IsSpot rows chosen #N s′ r′ k′
       pub less : ahead rows chosen s′ r′ k′ < ahead rows chosen s r k
       pub old : (i : ℕ) → pending s′ r′ k′ i ≡ true → pending s r k i ≡ true
       pub only : (i : ℕ) → i < length chosen → pending s r k i ≡ true → pending s′ r′ k′ i ≡ false → (k < length chosen) × (i ≡ k)
-      pub exactly : (s′, r′, k′) ≡ placeAfter s r k
+      pub exactly : (s′, r′, k′) ≡ spotAfter s r k
 
     -- (s, r, k) is a place of j: what lies from it on is frozen at j
-    pub record PlaceOf (j s r k : ℕ) : Type 0 where
-      pub place : Place rows chosen #N s r k
+    pub record SpotOf (j s r k : ℕ) : Type 0 where
+      pub place : IsSpot rows chosen #N s r k
       pub frozen : (i : ℕ) → pending s r k i ≡ true → isFrozen rows reads (getD chosen j 0) (variableOf rows chosen i) ≡ true
 
     -- what a search for j from (s₀, r₀, k₀) has shown at (s, r, k): whatever was passed and is open is not before j, and the
     -- answer from the one is the answer from the other
     pub record Sought (isOpen : ℕ → Bool) (j s₀ r₀ k₀ s r k : ℕ) : Type 0 where
-      pub at : PlaceOf j s r k
+      pub at : SpotOf j s r k
       pub none : (i : ℕ) → i < length chosen → pending s₀ r₀ k₀ i ≡ true → pending s r k i ≡ false → isOpen i ≡ true → prior rows reads chosen i j ≡ false
       pub onto : soughtFrom isOpen j s₀ r₀ k₀ ≡ soughtFrom isOpen j s r k
 
@@ -124,7 +124,7 @@ module _ (rows reads chosen : List ℕ) where
     passedOf j f i = not (pending (f / 4294967296) (f / 65536 % 65536) (f % 65536) i)
 
     unfoldable pub fingerOf : ℕ → ℕ → Type 0
-    fingerOf j f = PlaceOf j (f / 4294967296) (f / 65536 % 65536) (f % 65536)
+    fingerOf j f = SpotOf j (f / 4294967296) (f / 65536 % 65536) (f % 65536)
 
     abbrev pub graphOf : Graph
     graphOf = record { size = length chosen; before = prior rows reads chosen; passed = passedOf; Finger = fingerOf }

@@ -10,10 +10,10 @@ use Rattle.paper.specs.Limits.{mostDepth}
 use Rattle.paper.specs.declared.Variable.{Variable}
 use Rattle.paper.specs.Formula.{𝓋}
 use Rattle.paper.specs.Judgement.{Judgement, refused}
-use Rattle.paper.specs.Structure.Reading.{Reading}
+use Rattle.paper.specs.Structure.Fold.{Fold}
 use Rattle.entries.specs.First.{first}
 use Rattle.rows.specs.Walk.{valueAt}
-use Rattle.cover.specs.declared.Words.{Words}
+use Rattle.cover.specs.declared.Masks.{Masks}
 use Rattle.cover.specs.declared.Covering.{Covering}
 use Rattle.cover.specs.declared.Covering.the-variants.{Missed, Doubled, Covered}
 use Rattle.marks.specs.Marks.{isMarked}
@@ -21,44 +21,44 @@ use Rattle.marks.specs.Marks.{isMarked}
 abbrev pub allBits : ℕ
 allBits = 18446744073709551615
 
-abbrev pub words : Bool → ℕ → ℕ → ℕ → Words
+abbrev pub words : Bool → ℕ → ℕ → ℕ → Masks
 words l a e t = record { live = l; always = a; ever = e; twice = t }
 
 -- one branch that has a chosen candidate of the variables of a mask
-abbrev pub leafWords : ℕ → Words
-leafWords mask = words true mask mask 0
+abbrev pub leafMasks : ℕ → Masks
+leafMasks mask = words true mask mask 0
 
 -- a conjunction starts from one branch with nothing on it, any other join from no branch
-unfoldable pub unitWords : Bool → Words
-unitWords true = words true 0 0 0
-unitWords false = words false allBits 0 0
+unfoldable pub unitMasks : Bool → Masks
+unitMasks true = words true 0 0 0
+unitMasks false = words false allBits 0 0
 
-abbrev pub bothWords : Bool → Bool → Words → Words → Words
-bothWords true true a b =
+abbrev pub bothMasks : Bool → Bool → Masks → Masks → Masks
+bothMasks true true a b =
     words true (bitOr (a .always) (b .always)) (bitOr (a .ever) (b .ever)) (bitOr (bitOr (a .twice) (b .twice)) (bitAnd (a .ever) (b .ever)))
-bothWords true false a b = b
-bothWords false live a b = a
+bothMasks true false a b = b
+bothMasks false live a b = a
 
-unfoldable pub joinWords : Bool → Words → Words → Words
-joinWords true a b = bothWords (a .live) (b .live) a b
-joinWords false a b = words (a .live || b .live) (bitAnd (a .always) (b .always)) (bitOr (a .ever) (b .ever)) (bitOr (a .twice) (b .twice))
+unfoldable pub joinMasks : Bool → Masks → Masks → Masks
+joinMasks true a b = bothMasks (a .live) (b .live) a b
+joinMasks false a b = words (a .live || b .live) (bitAnd (a .always) (b .always)) (bitOr (a .ever) (b .ever)) (bitOr (a .twice) (b .twice))
 
 -- the bit of a chosen candidate whose variable is of the block, else no bit
 unfoldable pub maskOf : List ℕ → ℕ → ℕ → ℕ → ℕ
 maskOf marks block l v = cond (eqb (v / 64) block && isMarked marks l) (2 ^ (v % 64)) 0
 
-abbrev pub wordsReading : List ℕ → ℕ → Reading Words
-wordsReading marks block = record {
-  atFALSE = λ l. leafWords 0;
-  atTest = λ l. leafWords 0;
-  atCandidate = λ l v. leafWords (maskOf marks block (l .0) (v .0));
-  unit = unitWords;
-  join = joinWords;
+abbrev pub masksFold : List ℕ → ℕ → Fold Masks
+masksFold marks block = record {
+  atFALSE = λ l. leafMasks 0;
+  atTest = λ l. leafMasks 0;
+  atCandidate = λ l v. leafMasks (maskOf marks block (l .0) (v .0));
+  unit = unitMasks;
+  join = joinMasks;
 }
 
 -- the words of the formula that rows write, for the variables of a block
-abbrev pub wordsAt : List ℕ → List ℕ → ℕ → ℕ → ℕ → Words
-wordsAt rows marks block left i = valueAt (wordsReading marks block) rows left i
+abbrev pub masksAt : List ℕ → List ℕ → ℕ → ℕ → ℕ → Masks
+masksAt rows marks block left i = valueAt (masksFold marks block) rows left i
 
 -- bit b of a word
 unfoldable pub bitAt : ℕ → ℕ → Bool
@@ -66,17 +66,17 @@ bitAt w b = eqb (w / 2 ^ b % 2) 1
 
 -- some branch has no chosen candidate of variable v; some branch has two or more
 unfoldable pub isMissed : List ℕ → List ℕ → ℕ → Bool
-isMissed rows marks v = not (bitAt (wordsAt rows marks (v / 64) mostDepth 0 .always) (v % 64))
+isMissed rows marks v = not (bitAt (masksAt rows marks (v / 64) mostDepth 0 .always) (v % 64))
 
 unfoldable pub isDoubled : List ℕ → List ℕ → ℕ → Bool
-isDoubled rows marks v = bitAt (wordsAt rows marks (v / 64) mostDepth 0 .twice) (v % 64)
+isDoubled rows marks v = bitAt (masksAt rows marks (v / 64) mostDepth 0 .twice) (v % 64)
 
 -- the lowest variable that is missed, else the lowest that is doubled
-abbrev pub firstOf : ℕ → ℕ → ℕ → Covering
-firstOf #V missed doubled = cond (ltb missed #V) (Missed (𝓋 missed)) (cond (ltb doubled #V) (Doubled (𝓋 doubled)) Covered)
+abbrev pub lowestOf : ℕ → ℕ → ℕ → Covering
+lowestOf #V missed doubled = cond (ltb missed #V) (Missed (𝓋 missed)) (cond (ltb doubled #V) (Doubled (𝓋 doubled)) Covered)
 
 unfoldable pub coveringOf : List ℕ → List ℕ → ℕ → Covering
-coveringOf rows marks #V = firstOf #V (first (isMissed rows marks) #V) (first (isDoubled rows marks) #V)
+coveringOf rows marks #V = lowestOf #V (first (isMissed rows marks) #V) (first (isDoubled rows marks) #V)
 
 -- the lowest below m + v, from the lowest below v and the lowest of the m after that
 abbrev pub further : ℕ → ℕ → ℕ → ℕ

@@ -5,14 +5,14 @@ use mathlib.Core.Path.{_≡_, _∙_}
 use mathlib.Core.Logic.{inl, inr}
 use lib.ListN.{length}
 use borrow.Author.Needs.{needs}
-use Rattle.net.specs.Net.{Only, ChainWord}
+use Rattle.net.specs.Net.{Only, IndexWord}
 use Rattle.net.proofs.Notes.{only-none, only-more, only-then}
 use Rattle.net.proofs.Chains.{variableAt, Linked, linked-none, linked-more, linked-all, only-before}
-use Rattle.net.proofs.note_chains.Statement.{statement}
-use Rattle.net.proofs.note_chains.Tie as tie
+use Rattle.net.proofs.note_indices.Statement.{statement}
+use Rattle.net.proofs.note_indices.Tie as tie
 
 abbrev Inv-loop : tie.InvT-loop
-Inv-loop rows chosen n net₀ k₀ net k = (k ≤ length chosen) × Linked rows chosen n k net × Only (ChainWord (length chosen)) net₀ net
+Inv-loop rows chosen n net₀ k₀ net k = (k ≤ length chosen) × Linked rows chosen n k net × Only (IndexWord (length chosen)) net₀ net
 
 abbrev μ-loop : tie.MeasureT-loop
 μ-loop rows chosen n net₀ k₀ net k = k
@@ -106,8 +106,8 @@ returns c =
     let inv = c .before .loop .inv in
     (linked-all _ _ (inv .1) (omega arith), only-then (only-before _ (c .before .before .note-none .ensures .1)) (inv .2))
 
-pub note-chains-spec : {M : Type 1} → statement M
-note-chains-spec =
+pub note-indices-spec : {M : Type 1} → statement M
+note-indices-spec =
     tie.close
     (tie.spec
     Inv-loop
