@@ -8,8 +8,6 @@ use Rattle.paper.proofs.Outcome.{by-equation}
 use Rattle.listing.specs.Placed.{Put}
 use Rattle.lister.specs.declared.lines.Lines.{Lines}
 use Rattle.lister.specs.declared.parts.Part.{Part}
-use Rattle.lister.specs.Listing.{linesFrom}
-use Rattle.lister.specs.Steps.{LinesPut}
 use Rattle.lister.proofs.lines as lines
 use Rattle.lister.proofs.parts as parts
 
@@ -28,9 +26,6 @@ pieces-of κs a pre x y v w p q = (by-equation p q, refl)
 
 pub put-head : OneOutcome lines.put_head.Kinds.ps lines.put_head.Kinds.r lines.put_head.Reads.Pre lines.put_head.Reads.Post
 put-head κs a pre x y v w p q = let (n, t) = one-put p q in (n, λ i. (tt, (tt, (t i, tt))))
-
-pub put-line : OneOutcome lines.put_line.Kinds.ps lines.put_line.Kinds.r lines.put_line.Reads.Pre lines.put_line.Reads.Post
-put-line κs a pre x y v w p q = let (n, t) = one-put p q in (n, λ i. (tt, (tt, (tt, (tt, (tt, (tt, (t i, (tt, tt)))))))))
 
 pub put-lines : OneOutcome lines.put_lines.Kinds.ps lines.put_lines.Kinds.r lines.put_lines.Reads.Pre lines.put_lines.Reads.Post
 put-lines κs a pre x y v w p q =
