@@ -8,7 +8,8 @@ use lib.Dec.{ltb, eqb}
 use lib.ListN.{length, getD, drop}
 use Rattle.paper.specs.declared.Label.{Label}
 use Rattle.paper.specs.Formula.{Formula, labels}
-use Rattle.paper.specs.Judgement.{Judgement, accepted, refused, refuse, strangers, missed, doubled, onCycles, mostTransitions, judge}
+use Rattle.paper.specs.Limits.{mostTransitions}
+use Rattle.paper.specs.Judgement.{Judgement, accepted, refused, refuse, strangers, missed, doubled, onCycles, judge}
 use Rattle.paper.specs.Transition.{keys}
 use Rattle.entries.specs.First.{first}
 use Rattle.entries.specs.Entries.{falls, beyond}

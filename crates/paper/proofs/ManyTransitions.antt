@@ -17,7 +17,8 @@ use Rattle.paper.specs.Before.{before, depends, shareBranch}
 use Rattle.paper.specs.Order.{leads}
 use Rattle.paper.specs.Strategy.{chosenOn, MinimalCovering}
 use Rattle.paper.specs.Transition.{keys}
-use Rattle.paper.specs.Judgement.{accepted, refused, variables, strangers, missed, doubled, onCycles, mostTransitions, judgeOrder, judge}
+use Rattle.paper.specs.Limits.{mostTransitions}
+use Rattle.paper.specs.Judgement.{accepted, refused, variables, strangers, missed, doubled, onCycles, judgeOrder, judge}
 use Rattle.paper.specs.Structure.Cover.{coverOf}
 use Rattle.paper.specs.Structure.KeyCount.{numberOf}
 use Rattle.paper.specs.ManyTransitions.{fourChoices, allOfFour, sixteenChoices, allOfSixteen, sixteenInCycle}
