@@ -15,7 +15,8 @@ use Rattle.paper.proofs.Labels.{mem-has}
 use Rattle.entries.specs.Front.{inFront}
 use Rattle.table.specs.declared.Checked.the-variants.{Sound}
 use Rattle.table.specs.Table.{checked, chosenIn}
-use Rattle.written.specs.Tables.{Understood, formulaIn}
+use Rattle.written.specs.Tables.{formulaIn}
+use Rattle.written.specs.Inside.Understood.{Understood}
 use Rattle.written.proofs.Tables.{understood}
 use Rattle.verdict.specs.declared.Accepted.{Accepted}
 use Rattle.verdict.specs.declared.Judged.{Judged}
@@ -30,7 +31,8 @@ use Rattle.filling.specs.Filling.{unlessShort, Fills}
 use Rattle.answers.specs.declared.Counts.{Counts}
 use Rattle.answers.specs.declared.Answer.{Answer}
 use Rattle.answers.specs.declared.Answer.the-variants as answer
-use Rattle.answers.specs.Requests.{judgeAnswer, judgeOf, FitCounts, reported, orderOutcome, orderOf, Ordered}
+use Rattle.answers.specs.Requests.{judgeAnswer, judgeOf, reported, orderOutcome, orderOf}
+use Rattle.answers.specs.Inside.Judged.{FitCounts, Ordered}
 use Rattle.answers.proofs.Answers.{accepted-first}
 
 module _ (words : List ℕ) (a : Accepted) (e : judgedOf words ≡ judged.Accepted a) where

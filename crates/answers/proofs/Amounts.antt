@@ -14,8 +14,10 @@ use Rattle.verdict.specs.declared.Judged.{Judged}
 use Rattle.verdict.specs.declared.Judged.the-variants as judged
 use Rattle.strategy.specs.Judge.{judgedOf}
 use Rattle.filling.specs.Filling.{Outcome, refuses, fills, unlessShort, filledOf}
-use Rattle.answers.specs.Requests.{FitFilled, reported, keyOf, keptMarks, assignedOf, unlessAbsent, orderOutcome, ofTransition}
-use Rattle.answers.specs.Requests.{transitionOutcome, assignmentsOutcome, outcomeOf, orderOf, transitionOf, assignmentsOf, AcceptedAs}
+use Rattle.answers.specs.Requests.{reported, keyOf, keptMarks, assignedOf, unlessAbsent, orderOutcome, ofTransition}
+use Rattle.answers.specs.Inside.Judged.{FitFilled}
+use Rattle.answers.specs.Requests.{transitionOutcome, assignmentsOutcome, outcomeOf, orderOf, transitionOf, assignmentsOf}
+use Rattle.answers.specs.Inside.Judged.{AcceptedAs}
 use Rattle.answers.proofs.Accepted.{is-understood}
 use Rattle.answers.proofs.Keeping.{amounts}
 

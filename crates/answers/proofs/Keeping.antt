@@ -22,24 +22,27 @@ use Rattle.paper.proofs.Numbers.{numbers-say}
 use Rattle.paper.specs.Statements.{NumbersSay}
 use Rattle.paper.proofs.Order.{reported-is-order}
 use Rattle.table.specs.declared.Layout.{Layout}
-use Rattle.written.specs.Tables.{Understood, formulaIn}
+use Rattle.written.specs.Tables.{formulaIn}
+use Rattle.written.specs.Inside.Understood.{Understood}
 use Rattle.table.specs.Table.{rowsIn, readsIn, chosenIn}
 use Rattle.rows.proofs.Rules.{rest}
 use Rattle.written.proofs.Words.{map-back, word-mem}
-use Rattle.rows.specs.Walk.{Walkable}
+use Rattle.rows.specs.Inside.Walk.{Walkable}
 use Rattle.keys.specs.declared.Distinct.{Distinct}
-use Rattle.marks.specs.Marks.{isMarked, Marked, AllBelow}
-use Rattle.keys.specs.Keys.{keysAt}
+use Rattle.marks.specs.Marks.{isMarked}
+use Rattle.marks.specs.Inside.Chosen.{Marked, AllBelow}
+use Rattle.keys.specs.Inside.Keys.{keysAt}
 use Rattle.verdict.specs.declared.Accepted.{Accepted}
 use Rattle.strategy.specs.Judge.{proposalIn}
 use Rattle.strategy.proofs.Held.{parts-of, Reached, reached, walkable}
-use Rattle.transitions.specs.Kept.{Keepable, MarkedKept}
-use Rattle.transitions.specs.Assigned.{keptOf, Fillable}
+use Rattle.transitions.specs.Inside.Kept.{Keepable, MarkedKept}
+use Rattle.transitions.specs.Inside.Assigned.{keptOf, Fillable}
 use Rattle.transitions.specs.Statements.{kthBytes, TransitionSays}
 use Rattle.transitions.proofs.MarkedBytes.{length-bytes}
 use Rattle.transitions.proofs.Words.{those-same, kept-labels, as-many-ordered}
 use Rattle.transitions.proofs.Numbered.{transition-says, transition-keepable}
-use Rattle.answers.specs.Requests.{reported, keyOf, keptMarks, assignedOf, Amounts, AcceptedAs, Ordered, Kept}
+use Rattle.answers.specs.Requests.{reported, keyOf, keptMarks, assignedOf}
+use Rattle.answers.specs.Inside.Judged.{Amounts, AcceptedAs, Ordered, Kept}
 use Rattle.answers.proofs.Accepted.{is-sound, is-understood, is-strategy, count-is, few-transitions, few-chosen, reported-length}
 
 relabelled : (ls : List Label) → map ℓ (map (λ (i : Label). i .0) ls) ≡ ls

@@ -2,7 +2,8 @@
 // are passed.
 ghost use lib.ListN.{length};
 ghost use Rattle.filling.specs.Filling.{Fills};
-ghost use Rattle.answers.specs.Requests.{transitionOutcome, assignmentsOutcome, AcceptedAs, Ordered, Asked, Kept};
+ghost use Rattle.answers.specs.Requests.{transitionOutcome, assignmentsOutcome};
+ghost use Rattle.answers.specs.Inside.Judged.{AcceptedAs, Ordered, Asked, Kept};
 use filling::Filled;
 use filling::fill_bytes;
 use filling::fill_words;

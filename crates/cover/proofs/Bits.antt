@@ -8,7 +8,7 @@ use lib.Dec.{eqb, ltb}
 use lib.Pow.{pow-pos, pow-lt, pow-add, shl-shr, high, low, ones-lt, ones-split}
 use lib.Bits.{bitAnd, bitOr, bitXor, and-shr, or-shr, xor-shr, and-mod, or-mod, xor-mod, shifted-even}
 use borrow.Author.Tests.{eq-eqb, ne-eqb, ltb-true, ltb-false, eqb-true}
-use Rattle.cover.specs.Masks.{allBits, bitAt}
+use Rattle.cover.specs.Inside.Masks.{allBits, bitAt}
 
 -- 1 moved to a place within a word is a power of two
 pub one-bit : (v : ℕ) → 1 * 2 ^ (v % 64) % 18446744073709551616 ≡ 2 ^ (v % 64)

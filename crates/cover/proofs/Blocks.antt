@@ -14,7 +14,7 @@ use Rattle.entries.specs.First.{first}
 use Rattle.entries.proofs.First.{first-le, first-same}
 use Rattle.cover.specs.declared.Masks.{Masks}
 use Rattle.cover.specs.declared.Covering.the-variants.{Missed, Doubled, Covered}
-use Rattle.cover.specs.Masks.{allBits, masksAt, bitAt, isMissed, isDoubled, coveringOf, further}
+use Rattle.cover.specs.Inside.Masks.{allBits, masksAt, bitAt, isMissed, isDoubled, coveringOf, further}
 use Rattle.cover.proofs.Bits.{not-bit}
 
 further-suc : (t : Bool) (p q v found : ℕ) → p ≡ further q v found → cond t 0 (suc p) ≡ further (cond t 0 (suc q)) (suc v) found

@@ -9,11 +9,11 @@ use Rattle.paper.specs.Formula.{𝓋}
 use Rattle.entries.specs.First.{first}
 use Rattle.rows.specs.Rows.{formOf}
 use Rattle.rows.specs.Formula.{starAt, childrenAt, nodeAt, formulaAt}
-use Rattle.rows.specs.Walk.{valueAt}
+use Rattle.rows.specs.Inside.Walk.{valueAt}
 use Rattle.written.specs.Example.{wordsOfP}
 use Rattle.cover.specs.declared.Covering.the-variants.{Missed, Doubled, Covered}
 use Rattle.marks.specs.Marks.{isMarked}
-use Rattle.cover.specs.Masks.{unitMasks, joinMasks, maskOf, bitAt, isMissed, isDoubled, coveringOf}
+use Rattle.cover.specs.Inside.Masks.{unitMasks, joinMasks, maskOf, bitAt, isMissed, isDoubled, coveringOf}
 
 abbrev rowsOfP : List ℕ
 rowsOfP = drop 6 wordsOfP

@@ -31,9 +31,10 @@ use Rattle.entries.proofs.First.{first-found, first-none, first-below, first-at
 use Rattle.rows.proofs.Walks.{value-read}
 use Rattle.cover.specs.declared.Masks.{Masks}
 use Rattle.cover.specs.declared.Covering.the-variants.{Missed, Doubled, Covered}
-use Rattle.marks.specs.Marks.{isMarked, Marked}
-use Rattle.cover.specs.Masks.{leafMasks, unitMasks, bothMasks, joinMasks, maskOf, masksFold, masksAt}
-use Rattle.cover.specs.Masks.{bitAt, isMissed, isDoubled, lowestOf, coveringOf, coveringBy, judgementOf}
+use Rattle.marks.specs.Marks.{isMarked}
+use Rattle.marks.specs.Inside.Chosen.{Marked}
+use Rattle.cover.specs.Inside.Masks.{leafMasks, unitMasks, bothMasks, joinMasks, maskOf, masksFold, masksAt}
+use Rattle.cover.specs.Inside.Masks.{bitAt, isMissed, isDoubled, lowestOf, coveringOf, coveringBy, judgementOf}
 use Rattle.cover.proofs.Leaves.{leaves-labelled}
 use Rattle.cover.proofs.Bits.{and-bit, or-bit, zero-bit, all-bit, power-bit}
 

@@ -3,8 +3,8 @@
 ghost use mathlib.Core.Path.{_≡_};
 ghost use Prim.Native.Nat.{_+_, _≤_, _<_, min};
 ghost use Rattle.entries.specs.First.{first};
-ghost use Rattle.rows.specs.Walk.{Walkable};
-ghost use Rattle.cover.specs.Masks.{unitMasks, joinMasks, leafMasks, maskOf, masksAt, bitAt, further, coveringOf};
+ghost use Rattle.rows.specs.Inside.Walk.{Walkable};
+ghost use Rattle.cover.specs.Inside.Masks.{unitMasks, joinMasks, leafMasks, maskOf, masksAt, bitAt, further, coveringOf};
 ghost use Rattle.paper.specs.Limits.{mostRows};
 use marks::is_marked;
 use paper::Label;

@@ -7,9 +7,9 @@ use mathlib.Core.Logic.{_⊎_, inl, inr}
 use mathlib.Core.List.{List, [], _∷_, List·Memᴰ, List·Memᴰ·head, List·Memᴰ·tail, List·Memᴰ·cases-cons, List·Memᴰ·not-nil}
 use Rattle.paper.specs.Order.{leads}
 use Rattle.paper.proofs.Bools.{both, and-left, and-right, or-left, or-right, or-cases, pick}
-use Rattle.net.specs.Prior.{upTo}
-use Rattle.fingers.specs.Graph.{Graph}
-use Rattle.cycles.specs.Path.{isOnRing, Trail, here, step}
+use Rattle.paper.specs.Lists.{upTo}
+use Rattle.fingers.specs.Inside.Graph.{Graph}
+use Rattle.cycles.specs.Inside.Path.{isOnRing, Trail, here, step}
 use Rattle.fingers.proofs.Kept.{in-upTo, of-upTo}
 
 module _ (R : ℕ → ℕ → Bool) where

@@ -9,10 +9,11 @@ use lib.ListN.{length, getD}
 use borrow.Author.Tests.{eq-eqb}
 use Rattle.paper.proofs.Bools.{not-so, same-answer}
 use Rattle.rows.specs.Rows.{fromOf}
-use Rattle.net.specs.Prior.{isFrozen, shareBranchIn, variableOf, prior, guardOf}
-use Rattle.net.specs.Net.{guardsFrom}
-use Rattle.fingers.specs.Ready.{Ready}
-use Rattle.fingers.specs.Spots.{stopOf, readsAny, IsSpot, pending, After}
+use Rattle.rows.specs.Inside.Tree.{guardOf}
+use Rattle.net.specs.Inside.Prior.{isFrozen, shareBranchIn, variableOf, prior}
+use Rattle.net.specs.Inside.Net.{guardsFrom}
+use Rattle.fingers.specs.Inside.Ready.{Ready}
+use Rattle.fingers.specs.Inside.Spots.{stopOf, readsAny, IsSpot, pending, After}
 use Rattle.fingers.proofs.Tests.{by, by-lt, never}
 use Rattle.fingers.proofs.Guards.{the-guard}
 use Rattle.fingers.proofs.GoesOn.{Part, chained, readLater, readAround, parts, joins, some-star, stop-in, after-star, reads-none}

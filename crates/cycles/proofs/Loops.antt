@@ -5,7 +5,7 @@ use mathlib.Core.Path.{_≡_, refl, sym, subst, ap, _∙_}
 use mathlib.Core.List.{List}
 use lib.ListN.{length, getD, set, length-set}
 use lib.Seq.{getD-set-other}
-use Rattle.cycles.specs.Path.{Finished, Settled}
+use Rattle.cycles.specs.Inside.Path.{Finished, Settled}
 use Rattle.fingers.proofs.Tests.{by-eq, at-set}
 
 pub finish-none : (mark stack : List ℕ) (from : ℕ) → Finished mark stack from from mark

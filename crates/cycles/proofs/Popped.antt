@@ -8,9 +8,9 @@ use mathlib.Core.List.{List}
 use lib.Dec.{eqb}
 use lib.ListN.{length, getD}
 use borrow.Author.Tests.{ne-eqb}
-use Rattle.net.specs.Prior.{upTo}
-use Rattle.fingers.specs.Graph.{Graph, free, leftOf}
-use Rattle.cycles.specs.Path.{isOnRing, Trail, here, step, Walked, Best, Grown, Finished, Counted}
+use Rattle.paper.specs.Lists.{upTo}
+use Rattle.fingers.specs.Inside.Graph.{Graph, free, leftOf}
+use Rattle.cycles.specs.Inside.Path.{isOnRing, Trail, here, step, Walked, Best, Grown, Finished, Counted}
 use Rattle.fingers.proofs.Tests.{by-eq, by-lt}
 use Rattle.fingers.proofs.Kept.{of-upTo, those-same}
 use Rattle.cycles.proofs.Chains.{ring-of, of-ring}

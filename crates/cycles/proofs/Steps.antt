@@ -12,8 +12,8 @@ use Rattle.paper.specs.Limits.{slots}
 use Rattle.paper.proofs.Bools.{not-so}
 use Rattle.entries.specs.First.{first}
 use Rattle.entries.proofs.First.{first-found, first-none}
-use Rattle.fingers.specs.Graph.{Graph, Next, free, outside, leftOf, Started}
-use Rattle.cycles.specs.Path.{isOnRing, Trail, step, Walked, Best, weight, Grown, Finished, Counted, Merged, Stepped, Explored, Selfless}
+use Rattle.fingers.specs.Inside.Graph.{Graph, Next, free, outside, leftOf, Started}
+use Rattle.cycles.specs.Inside.Path.{isOnRing, Trail, step, Walked, Best, weight, Grown, Finished, Counted, Merged, Stepped, Explored, Selfless}
 use Rattle.fingers.proofs.Tests.{by-eq, by-lt, never, at-set}
 use Rattle.fingers.proofs.Left.{was-free, left-few}
 use Rattle.cycles.proofs.Chains.{self-ring}

@@ -1,2 +1,1 @@
-pub mod Cyclic
-pub mod Path
+pub mod Inside

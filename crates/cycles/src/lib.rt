@@ -5,11 +5,11 @@
 ghost use mathlib.Core.Path.{_≡_};
 ghost use Prim.Native.Nat.{ℕ, _+_, _-_, _<_, _≤_};
 ghost use lib.ListN.{length, getD};
-ghost use Rattle.net.specs.Prior.{prior};
-ghost use Rattle.cycles.specs.Cyclic.{lowestOnCycle};
-ghost use Rattle.fingers.specs.Ready.{Ready};
-ghost use Rattle.cycles.specs.Path.{Walked, Best, Finished, Settled, Counted, Merged, Stepped, Explored, Selfless};
-ghost use Rattle.fingers.specs.Spots.{readsAny, graphOf};
+ghost use Rattle.net.specs.Inside.Prior.{prior};
+ghost use Rattle.cycles.specs.Inside.Cyclic.{lowestOnCycle};
+ghost use Rattle.fingers.specs.Inside.Ready.{Ready};
+ghost use Rattle.cycles.specs.Inside.Path.{Walked, Best, Finished, Settled, Counted, Merged, Stepped, Explored, Selfless};
+ghost use Rattle.fingers.specs.Inside.Spots.{readsAny, graphOf};
 ghost use Rattle.paper.specs.Limits.{slots};
 use entries::least;
 use entries::wide;

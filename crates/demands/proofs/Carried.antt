@@ -23,7 +23,8 @@ use Rattle.paper.proofs.KeyLists.{getD-mem}
 use Rattle.paper.proofs.Theorems.{keys-listed, carried-out, reported-is-order}
 use Rattle.table.specs.Table.{chosenIn}
 use Rattle.written.specs.Written.{Table}
-use Rattle.written.specs.Tables.{Understood, tableIn}
+use Rattle.written.specs.Tables.{tableIn}
+use Rattle.written.specs.Inside.Understood.{Understood}
 use Rattle.written.proofs.Words.{map-back}
 use Rattle.verdict.specs.declared.Accepted.{Accepted}
 use Rattle.verdict.specs.declared.Judged.the-variants as judged

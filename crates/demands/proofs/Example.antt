@@ -14,7 +14,8 @@ use Rattle.strategy.specs.Judge.{judgedOf}
 use Rattle.strategy.proofs.Example.{P-is-accepted}
 use Rattle.filling.specs.Filling.{Outcome, fills}
 use Rattle.answers.specs.declared.Counts.{Counts}
-use Rattle.answers.specs.Requests.{judgeOf, judgeAnswer, FitCounts, outcomeOf, ofTransition, orderOf, transitionOf, assignmentsOf}
+use Rattle.answers.specs.Requests.{judgeOf, judgeAnswer, outcomeOf, ofTransition, orderOf, transitionOf, assignmentsOf}
+use Rattle.answers.specs.Inside.Judged.{FitCounts}
 use Rattle.answers.specs.Requests.{orderOutcome, transitionOutcome, assignmentsOutcome}
 use Rattle.nocturenc.specs.Packed.{countsOf, AnswerPacked, FillsPacked}
 use Rattle.nocturenc.proofs.Reading.{read-counts, read-filled}

@@ -18,7 +18,8 @@ use Rattle.paper.proofs.Keys.{to-class}
 use Rattle.paper.proofs.KeyLists.{getD-mem}
 use Rattle.paper.proofs.Theorems.{theorem2, keys-listed}
 use Rattle.written.specs.Written.{Table}
-use Rattle.written.specs.Tables.{Understood, tableIn}
+use Rattle.written.specs.Tables.{tableIn}
+use Rattle.written.specs.Inside.Understood.{Understood}
 use Rattle.net.proofs.Spans.{labels-between}
 use Rattle.verdict.specs.declared.Accepted.{Accepted}
 use Rattle.verdict.specs.declared.Judged.the-variants as judged

@@ -11,7 +11,8 @@ use borrow.Author.Tests.{lt-ltb, le-ltb}
 use Rattle.entries.specs.Front.{inFront}
 use Rattle.filling.specs.declared.Filled.{Filled}
 use Rattle.filling.specs.declared.Filled.the-variants as filled
-use Rattle.filling.specs.Filling.{refuses, unlessShort, filledOf, copied, Fills}
+use Rattle.filling.specs.Filling.{refuses, unlessShort, filledOf, Fills}
+use Rattle.filling.specs.Inside.Copied.{copied}
 
 pub copied-none : (from out : List ℕ) → out ≡ copied from 0 out
 unfolding copied

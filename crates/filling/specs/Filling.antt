@@ -2,10 +2,10 @@
 -- writes at the slice's front and leaves what lies beyond.
 use Prim.Native.Nat.{ℕ}
 use mathlib.Core.Bool.{cond}
-use mathlib.Core.List.{List, _++_}
+use mathlib.Core.List.{List}
 use mathlib.Core.Path.{_≡_}
 use lib.Dec.{ltb}
-use lib.ListN.{length, take, drop}
+use lib.ListN.{length}
 use Rattle.paper.specs.Refusals.{outTooShort}
 use Rattle.entries.specs.Front.{inFront}
 use Rattle.sections.specs.Sections.{refusal}
@@ -39,7 +39,3 @@ IsRefusal (filled.Refused x) = Unit {0}
 pub record Fills (o : Outcome) (lent left : List ℕ) (r : Filled) : Type 0 where
   pub answered : r ≡ filledOf o
   pub left-so : left ≡ after o lent
-
--- the first n words or bytes of `from`, and then what stood behind them
-unfoldable pub copied : List ℕ → ℕ → List ℕ → List ℕ
-copied from n out = take n from ++ drop n out

@@ -2,7 +2,8 @@
 ghost use mathlib.Core.Path.{_≡_};
 ghost use Prim.Native.Nat.{_≤_};
 ghost use lib.ListN.{length, take};
-ghost use Rattle.filling.specs.Filling.{refuses, unlessShort, filledOf, copied, Fills};
+ghost use Rattle.filling.specs.Filling.{refuses, unlessShort, filledOf, Fills};
+ghost use Rattle.filling.specs.Inside.Copied.{copied};
 ghost use Rattle.paper.specs.Limits.{mostRows, slots};
 use paper::limits::MOST_ROWS;
 use paper::limits::SLOTS;

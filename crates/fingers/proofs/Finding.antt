@@ -8,8 +8,8 @@ use mathlib.Core.List.{List}
 use lib.ListN.{length}
 use borrow.Author.Tests.{eq-eqb, ne-eqb}
 use Rattle.fingers.specs.declared.Found.{Found}
-use Rattle.fingers.specs.Ready.{Ready}
-use Rattle.fingers.specs.Spots.{stopOf, packed, ahead, calls, spotAfter, soughtWithin, soughtFrom, IsSpot, After}
+use Rattle.fingers.specs.Inside.Ready.{Ready}
+use Rattle.fingers.specs.Inside.Spots.{stopOf, packed, ahead, calls, spotAfter, soughtWithin, soughtFrom, IsSpot, After}
 use Rattle.fingers.proofs.Tests.{by, by-eq, by-lt}
 use Rattle.fingers.proofs.GoesOn.{ahead-is, after-number, after-read, after-star}
 

@@ -15,10 +15,11 @@ use Rattle.paper.proofs.Bools.{both, and-left, and-right, or-left, or-right, or
 use Rattle.entries.specs.First.{first}
 use Rattle.rows.specs.Rows.{kindOf, argOf, fromOf}
 use Rattle.entries.proofs.First.{first-le, first-at, first-below}
-use Rattle.net.specs.Prior.{starReads, around, guardOf, variableOf}
-use Rattle.net.specs.Net.{firstWith, guardsFrom, nextsFrom, firstsFrom}
-use Rattle.fingers.specs.Ready.{Ready}
-use Rattle.fingers.specs.Spots.{stopOf, readsAny, packed, pending, ahead, spotAfter, IsSpot, After}
+use Rattle.rows.specs.Inside.Tree.{guardOf}
+use Rattle.net.specs.Inside.Prior.{starReads, around, variableOf}
+use Rattle.net.specs.Inside.Net.{firstWith, guardsFrom, nextsFrom, firstsFrom}
+use Rattle.fingers.specs.Inside.Ready.{Ready}
+use Rattle.fingers.specs.Inside.Spots.{stopOf, readsAny, packed, pending, ahead, spotAfter, IsSpot, After}
 use Rattle.fingers.proofs.Tests.{by-eq, by-lt, never}
 use Rattle.fingers.proofs.Guards.{Innermost, no-guard, the-guard}
 

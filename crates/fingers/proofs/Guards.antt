@@ -11,9 +11,11 @@ use Rattle.paper.specs.Lists.{anyOf}
 use Rattle.paper.proofs.Bools.{both, and-left, and-right, or-left, or-right, or-cases, not-so, same-answer, pick}
 use Rattle.paper.proofs.Lists.{to-any, of-any}
 use Rattle.rows.specs.Rows.{kindOf, endOf}
-use Rattle.net.specs.Prior.{upTo, lastOf, isGuarded, guardOf, starReads, around, isFrozen}
-use Rattle.net.specs.Net.{Tree}
-use Rattle.net.proofs.Last.{Last, last-of}
+use Rattle.paper.specs.Lists.{upTo, lastOf}
+use Rattle.rows.specs.Inside.Tree.{isGuarded, guardOf}
+use Rattle.net.specs.Inside.Prior.{starReads, around, isFrozen}
+use Rattle.net.specs.Inside.Net.{Tree}
+use Rattle.paper.proofs.Last.{Last, last-of}
 use Rattle.fingers.proofs.Tests.{by, by-eq, by-lt, never}
 use Rattle.fingers.proofs.Kept.{in-upTo, of-upTo}
 

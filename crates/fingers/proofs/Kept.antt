@@ -10,7 +10,7 @@ use lib.ListN.{length, length-append}
 use Rattle.paper.specs.Lists.{anyOf, those}
 use Rattle.paper.proofs.Bools.{not-so, pick}
 use Rattle.paper.proofs.Lists.{to-any, of-any, to-those, of-those, to-none, those-append}
-use Rattle.net.specs.Prior.{upTo}
+use Rattle.paper.specs.Lists.{upTo}
 use Rattle.fingers.proofs.Tests.{never}
 
 pub in-upTo : (n i : ℕ) → i < n → List·Memᴰ i (upTo n)

@@ -11,8 +11,8 @@ use borrow.Author.Tests.{eq-eqb, ne-eqb}
 use Rattle.paper.specs.Lists.{those}
 use Rattle.paper.proofs.Bools.{and-left}
 use Rattle.paper.proofs.Lists.{those-le, those-lt, to-those}
-use Rattle.net.specs.Prior.{upTo}
-use Rattle.fingers.specs.Graph.{free, leftOf}
+use Rattle.paper.specs.Lists.{upTo}
+use Rattle.fingers.specs.Inside.Graph.{free, leftOf}
 use Rattle.fingers.proofs.Tests.{by-eq}
 use Rattle.fingers.proofs.Kept.{in-upTo, length-upTo, those-those, those-same}
 

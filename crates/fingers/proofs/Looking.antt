@@ -7,9 +7,9 @@ use mathlib.Core.List.{List}
 use lib.Dec.{eqb, ltb}
 use lib.ListN.{length, getD}
 use borrow.Author.Tests.{eq-eqb, ne-eqb, lt-ltb, le-ltb}
-use Rattle.net.specs.Prior.{shareBranchIn}
-use Rattle.net.specs.Net.{Cleared}
-use Rattle.fingers.specs.Spots.{calls, Apart, Looked}
+use Rattle.net.specs.Inside.Prior.{shareBranchIn}
+use Rattle.net.specs.Inside.Net.{Cleared}
+use Rattle.fingers.specs.Inside.Spots.{calls, Apart, Looked}
 use Rattle.fingers.proofs.Tests.{by-eq}
 
 module _ (rows chosen : List ℕ) (j : ℕ) where

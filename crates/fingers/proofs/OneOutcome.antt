@@ -5,7 +5,7 @@ use mathlib.Core.List.{List}
 use lib.ListN.{length}
 use Rattle.paper.specs.Outcome.{OneOutcome}
 use Rattle.paper.proofs.Outcome.{by-equation, by-entries}
-use Rattle.fingers.specs.Spots.{AtStart}
+use Rattle.fingers.specs.Inside.Spots.{AtStart}
 use Rattle.fingers.proofs.Tests.{by-lt}
 use Rattle.fingers.proofs as fingers
 

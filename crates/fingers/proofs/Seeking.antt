@@ -11,10 +11,10 @@ use borrow.Author.Tests.{ne-eqb, lt-ltb, le-ltb, ltb-true, not-true, not-false}
 use Rattle.paper.specs.Limits.{slots}
 use Rattle.paper.proofs.Bools.{both, and-left, and-right, not-so}
 use Rattle.rows.specs.Rows.{kindOf, fromOf}
-use Rattle.net.specs.Prior.{isFrozen, variableOf, prior}
-use Rattle.fingers.specs.Ready.{Ready}
-use Rattle.fingers.specs.Graph.{Graph, Next, free, outside, Started}
-use Rattle.fingers.specs.Spots.{packed, calls, startOf, AtStart, pending, After, SpotOf, Sought, passedOf, fingerOf, graphOf, Answered}
+use Rattle.net.specs.Inside.Prior.{isFrozen, variableOf, prior}
+use Rattle.fingers.specs.Inside.Ready.{Ready}
+use Rattle.fingers.specs.Inside.Graph.{Graph, Next, free, outside, Started}
+use Rattle.fingers.specs.Inside.Spots.{packed, calls, startOf, AtStart, pending, After, SpotOf, Sought, passedOf, fingerOf, graphOf, Answered}
 use Rattle.fingers.proofs.Tests.{by, by-eq, never, at-set}
 use Rattle.fingers.proofs.Guards.{frozen-is}
 use Rattle.fingers.proofs.GoesOn.{chained, joins, some-star, opened}

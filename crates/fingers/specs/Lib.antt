@@ -1,3 +1,1 @@
-pub mod Ready
-pub mod Graph
-pub mod Spots
+pub mod Inside

@@ -4,11 +4,11 @@
 ghost use mathlib.Core.Path.{_≡_};
 ghost use Prim.Native.Nat.{_+_, _*_, _/_, _%_, _<_, _≤_};
 ghost use lib.ListN.{length, getD};
-ghost use Rattle.net.specs.Prior.{shareBranchIn};
-ghost use Rattle.net.specs.Net.{Chosen, Net};
-ghost use Rattle.fingers.specs.Ready.{Ready};
-ghost use Rattle.fingers.specs.Graph.{outside};
-ghost use Rattle.fingers.specs.Spots.{stopOf, packed, calls, AtStart, Apart, Looked, Seekable, IsSpot, After, Answered, graphOf};
+ghost use Rattle.net.specs.Inside.Prior.{shareBranchIn};
+ghost use Rattle.net.specs.Inside.Net.{Chosen, Net};
+ghost use Rattle.fingers.specs.Inside.Ready.{Ready};
+ghost use Rattle.fingers.specs.Inside.Graph.{outside};
+ghost use Rattle.fingers.specs.Inside.Spots.{stopOf, packed, calls, AtStart, Apart, Looked, Seekable, IsSpot, After, Answered, graphOf};
 ghost use Rattle.paper.specs.Limits.{mostRows, slots};
 use entries::wide;
 use net::NET_LENGTH;

@@ -6,9 +6,10 @@ use mathlib.Core.Path.{_≡_, refl, sym, ap, _∙_}
 use mathlib.Core.List.{List, [], _∷_}
 use lib.ListN.{length, getD, take, drop, set}
 use lib.Seq.{take-at}
-use Rattle.filling.specs.Filling.{copied}
+use Rattle.filling.specs.Inside.Copied.{copied}
 use Rattle.filling.proofs.Copies.{copied-all, Copying, copy-goes-on, copy-ends}
-use Rattle.input.specs.Bytes.{wordsOf, WordsIn}
+use Rattle.input.specs.Bytes.{wordsOf}
+use Rattle.input.specs.Inside.Words.{WordsIn}
 
 pub words-length : (bytes : List ℕ) → length (wordsOf bytes) ≡ length bytes / 2
 unfolding wordsOf

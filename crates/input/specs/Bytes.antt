@@ -7,7 +7,6 @@ use mathlib.Core.Path.{_≡_}
 use lib.Dec.{eqb}
 use lib.ListN.{length}
 use Rattle.paper.specs.Refusals.{oddBytes}
-use Rattle.entries.specs.Front.{inFront}
 use Rattle.verdict.specs.declared.Judged.{Judged}
 use Rattle.verdict.specs.Verdict.{refusedAt}
 use Rattle.strategy.specs.Judge.{leftBy, orderIn, judgedOf}
@@ -17,12 +16,6 @@ unfoldable pub wordsOf : List ℕ → List ℕ
 wordsOf [] = []
 wordsOf (low ∷ []) = []
 wordsOf (low ∷ high ∷ bytes) = (low + 256 * high) ∷ wordsOf bytes
-
--- the words of the bytes stand in front of what was there, and how many they are
-pub record WordsIn (bytes lent left : List ℕ) (count : ℕ) : Type 0 where
-  pub many : count ≡ length (wordsOf bytes)
-  pub half : count ≡ length bytes / 2
-  pub stand : left ≡ inFront (wordsOf bytes) lent
 
 abbrev pub areOdd : List ℕ → Bool
 areOdd bytes = eqb (length bytes % 2) 1

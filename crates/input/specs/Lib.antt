@@ -1,3 +1,4 @@
 pub mod Bytes
 pub mod Example
 pub mod Length
+pub mod Inside

@@ -2,7 +2,7 @@
 ghost use mathlib.Core.Path.{_≡_};
 ghost use Prim.Native.Nat.{_+_, _*_, _/_, _≤_};
 ghost use lib.ListN.{length};
-ghost use Rattle.input.specs.Bytes.{WordsIn};
+ghost use Rattle.input.specs.Inside.Words.{WordsIn};
 
 // The word of two bytes.
 fn word_of(low: u8, high: u8) -> u16

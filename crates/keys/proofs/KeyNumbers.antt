@@ -18,12 +18,13 @@ use Rattle.paper.specs.Structure.KeyCount.{joinKeys as joinCounts, keyFold, key
 use Rattle.paper.proofs.Folds.{carried, carried-everywhere}
 use Rattle.paper.proofs.Bools.{pick}
 use Rattle.rows.specs.Formula.{formulaAt}
-use Rattle.rows.specs.Walk.{Walkable, skeletonAt, valueAt}
+use Rattle.rows.specs.Inside.Walk.{Walkable, skeletonAt, valueAt}
 use Rattle.rows.proofs.Meets.{lt-or-le}
 use Rattle.rows.proofs.Walks.{value-read}
 use Rattle.keys.specs.declared.Distinct.{Distinct}
-use Rattle.marks.specs.Marks.{isMarked, Marked}
-use Rattle.keys.specs.Keys.{limit, keysOf, total, leafKeys, joinKeys, keysFold, keysAt}
+use Rattle.marks.specs.Marks.{isMarked}
+use Rattle.marks.specs.Inside.Chosen.{Marked}
+use Rattle.keys.specs.Inside.Keys.{limit, keysOf, total, leafKeys, joinKeys, keysFold, keysAt}
 use Rattle.keys.proofs.LeafLabels.{leaves-hold}
 
 -- n held at the limit is h: n itself, or the limit where n is above it

@@ -12,9 +12,9 @@ use borrow.Author.Tests.{eq-eqb, ne-eqb}
 use Rattle.paper.specs.Structure.KeyCount.{KeyCount, number, unitKeys as unitCount, joinKeys as joinCounts}
 use Rattle.paper.proofs.Numbers.{number-of-both, number-of-either, joinKeys-unit}
 use Rattle.rows.specs.Rows.{kindOf, endOf, formOf}
-use Rattle.rows.specs.Walk.{expressionsAt, firstAt, Walkable, joinedFrom}
+use Rattle.rows.specs.Inside.Walk.{expressionsAt, firstAt, Walkable, joinedFrom}
 use Rattle.rows.proofs.Walks.{value-join}
-use Rattle.keys.specs.Keys.{total, keysAt}
+use Rattle.keys.specs.Inside.Keys.{total, keysAt}
 use Rattle.keys.proofs.KeyNumbers.{held-within, held-exact, countFold, countAt, keys-held}
 
 abbrev pub productOf : List ℕ → ℕ

@@ -9,7 +9,7 @@ use Rattle.paper.specs.Formula.{ℓ, Formula}
 use Rattle.paper.proofs.Folds.{AtLeaves, AtLeavesOf}
 use Rattle.rows.specs.Rows.{kindOf, argOf, endOf, formOf}
 use Rattle.rows.specs.Formula.{starAt, childrenAt, nodeAt, formulaAt}
-use Rattle.rows.specs.Walk.{expressions, firstUnder, Walkable}
+use Rattle.rows.specs.Inside.Walk.{expressions, firstUnder, Walkable}
 use Rattle.rows.proofs.Forms.{by-form}
 use Rattle.rows.proofs.Walks.{Along, along-under, along-on, along-next}
 

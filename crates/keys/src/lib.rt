@@ -2,9 +2,9 @@
 ghost use mathlib.Core.Path.{_≡_};
 ghost use mathlib.Core.Bool.{true, false};
 ghost use Prim.Native.Nat.{_≤_, _<_, min};
-ghost use Rattle.rows.specs.Walk.{Walkable};
+ghost use Rattle.rows.specs.Inside.Walk.{Walkable};
 ghost use Rattle.marks.specs.Marks.{isMarked};
-ghost use Rattle.keys.specs.Keys.{limit, total, leafKeys, joinKeys, keysAt};
+ghost use Rattle.keys.specs.Inside.Keys.{limit, total, leafKeys, joinKeys, keysAt};
 ghost use Rattle.paper.specs.Limits.{mostRows};
 use marks::is_marked;
 use paper::Label;

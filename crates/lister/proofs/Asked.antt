@@ -11,19 +11,20 @@ use Rattle.paper.specs.Formula.{ℓ}
 use Rattle.entries.specs.Front.{inFront}
 use Rattle.sections.specs.declared.Refusal.{Refusal}
 use Rattle.table.specs.Table.{rowsIn}
-use Rattle.marks.specs.Marks.{Marked}
-use Rattle.keys.specs.Keys.{keysAt}
+use Rattle.marks.specs.Inside.Chosen.{Marked}
+use Rattle.keys.specs.Inside.Keys.{keysAt}
 use Rattle.verdict.specs.declared.Accepted.{Accepted}
 use Rattle.verdict.specs.declared.Judged.{Judged}
 use Rattle.verdict.specs.declared.Judged.the-variants as judged
 use Rattle.verdict.specs.Verdict.{refusedAt}
 use Rattle.strategy.specs.Judge.{proposalIn, leftBy, orderIn, judgedOf}
 use Rattle.input.specs.Bytes.{wordsOf, areOdd, judgedBytes, orderLeftOf, JudgedBytes}
-use Rattle.answers.specs.Requests.{reported, AcceptedAs, Ordered}
+use Rattle.answers.specs.Requests.{reported}
+use Rattle.answers.specs.Inside.Judged.{AcceptedAs, Ordered}
 use Rattle.answers.proofs.Accepted.{is-understood, few-transitions, few-chosen, reported-length, order-in-front, front-as-long}
 use Rattle.answers.proofs.Keeping.{rows-lent, chosen-lent}
 use Rattle.lister.specs.declared.basis.Basis.{Basis}
-use Rattle.lister.specs.Steps.{Headed, ListableIf, Based, longest, Prepared}
+use Rattle.lister.specs.Inside.Steps.{Headed, ListableIf, Based, longest, Prepared}
 
 -- what the judgement of bytes leaves
 module _ {bytes order₀ order : List ℕ} {r : Judged} (j : JudgedBytes bytes order₀ order r) where

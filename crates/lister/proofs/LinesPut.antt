@@ -18,21 +18,22 @@ use Rattle.table.specs.declared.Layout.{Layout}
 use Rattle.written.specs.Tables.{formulaIn}
 use Rattle.written.specs.Written.{labelsOn}
 use Rattle.keys.specs.declared.Distinct.{Distinct}
-use Rattle.marks.specs.Marks.{Marked}
+use Rattle.marks.specs.Inside.Chosen.{Marked}
 use Rattle.verdict.specs.declared.Accepted.{Accepted}
 use Rattle.strategy.specs.Judge.{proposalIn}
-use Rattle.transitions.specs.Kept.{Keepable, MarkedKept}
-use Rattle.transitions.specs.Assigned.{keptOf, Fillable}
-use Rattle.answers.specs.Requests.{keyOf, keptMarks, assignedOf, AcceptedAs}
+use Rattle.transitions.specs.Inside.Kept.{Keepable, MarkedKept}
+use Rattle.transitions.specs.Inside.Assigned.{keptOf, Fillable}
+use Rattle.answers.specs.Requests.{keyOf, keptMarks, assignedOf}
+use Rattle.answers.specs.Inside.Judged.{AcceptedAs}
 use Rattle.answers.proofs.Accepted.{is-understood, few-transitions}
 use Rattle.answers.proofs.Keeping.{rows-lent, chosen-lent, rows-fit, keepable, bytes-left, front-is}
 use Rattle.answers.proofs.Keeping.{front-there, front-length, fillable, assigned-there, assigned-front, amounts}
 use Rattle.marks.specs.Marks.{positionsFrom, positions}
 use Rattle.listing.specs.Text.{transitionLine}
-use Rattle.listing.specs.Placed.{Put}
+use Rattle.listing.specs.Inside.Placed.{Put}
 use Rattle.listing.proofs.Placing.{put-nothing, put-then}
 use Rattle.lister.specs.Listing.{lineOf, linesFrom}
-use Rattle.lister.specs.Steps.{Listable, longest, fitting}
+use Rattle.lister.specs.Inside.Steps.{Listable, longest, fitting}
 
 -- the bytes of labels that pass a test, and their positions
 module _ (p : Label → Bool) where

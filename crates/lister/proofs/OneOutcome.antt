@@ -5,7 +5,7 @@ use mathlib.Core.List.{List}
 use mathlib.Core.Path.{_≡_, refl, sym, ap, _∙_}
 use Rattle.paper.specs.Outcome.{OneOutcome}
 use Rattle.paper.proofs.Outcome.{by-equation}
-use Rattle.listing.specs.Placed.{Put}
+use Rattle.listing.specs.Inside.Placed.{Put}
 use Rattle.lister.specs.declared.lines.Lines.{Lines}
 use Rattle.lister.specs.declared.parts.Part.{Part}
 use Rattle.lister.proofs.lines as lines

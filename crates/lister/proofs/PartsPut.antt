@@ -9,13 +9,13 @@ use Rattle.sections.specs.declared.Refusal.{Refusal}
 use Rattle.verdict.specs.declared.Accepted.{Accepted}
 use Rattle.verdict.specs.declared.Judged.{Judged}
 use Rattle.verdict.specs.declared.Judged.the-variants as judged
-use Rattle.answers.specs.Requests.{Ordered}
+use Rattle.answers.specs.Inside.Judged.{Ordered}
 use Rattle.answers.proofs.Accepted.{few-transitions}
 use Rattle.listing.specs.Text.{refusedLine}
-use Rattle.listing.specs.Placed.{Put}
+use Rattle.listing.specs.Inside.Placed.{Put}
 use Rattle.lister.specs.declared.lines.Lines.{Lines}
 use Rattle.lister.specs.Listing.{headOf, pieces}
-use Rattle.lister.specs.Steps.{LinesPut, manyPieces, PartPut, AcceptedIf}
+use Rattle.lister.specs.Inside.Steps.{LinesPut, manyPieces, PartPut, AcceptedIf}
 use Rattle.lister.proofs.Asked.{line-room}
 use Rattle.lister.proofs.LinesPut.{fits-within, fits-some}
 

@@ -10,9 +10,9 @@ use lib.ListN.{length, take, drop, length-append}
 use lib.Seq.{take-at, drop-at}
 use Rattle.verdict.specs.declared.Judged.{Judged}
 use Rattle.verdict.specs.declared.Judged.the-variants as judged
-use Rattle.listing.specs.Placed.{placed, Put}
+use Rattle.listing.specs.Inside.Placed.{placed, Put}
 use Rattle.lister.specs.Listing.{linesFrom, firstOf, transitionsOf, linesBelow, pieces, piecesBelow}
-use Rattle.lister.specs.Steps.{manyPieces, partOf}
+use Rattle.lister.specs.Inside.Steps.{manyPieces, partOf}
 use Rattle.lister.proofs.LinesPut.{lines-split}
 
 -- what is put at the front stands there

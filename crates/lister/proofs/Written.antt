@@ -14,7 +14,7 @@ use Rattle.listing.proofs.Placing.{put-length}
 use Rattle.lister.specs.declared.output.Written.{Written}
 use Rattle.lister.specs.declared.parts.Part.{Part}
 use Rattle.lister.specs.Listing.{firstOf, transitionsOf, linesBelow, listingOf, pieces, piecesBelow}
-use Rattle.lister.specs.Steps.{AcceptedIf, PartPut, Prepared, NextPart, HandedOver, Reached}
+use Rattle.lister.specs.Inside.Steps.{AcceptedIf, PartPut, Prepared, NextPart, HandedOver, Reached}
 use Rattle.lister.proofs.Pieces.{put-front, stands-between, part-follows, all-pieces, behind}
 use Rattle.lister.proofs.PartsPut.{part-goes-on}
 

@@ -1,5 +1,5 @@
 // What the lines of an accepted table's transitions are worked out from, whichever the transition: worked out once for a listing.
-ghost use Rattle.lister.specs.Steps.{AcceptedIf, Based};
+ghost use Rattle.lister.specs.Inside.Steps.{AcceptedIf, Based};
 use keys::Distinct;
 use keys::keys_of;
 use marks::marks_of;

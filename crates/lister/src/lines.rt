@@ -2,9 +2,9 @@
 // time as surely fit.
 ghost use Prim.Native.Nat.{_+_, _<_, _≤_};
 ghost use lib.ListN.{length, take};
-ghost use Rattle.listing.specs.Placed.{Put};
+ghost use Rattle.listing.specs.Inside.Placed.{Put};
 ghost use Rattle.lister.specs.Listing.{headOf, lineOf};
-ghost use Rattle.lister.specs.Steps.{Headed, Listable, longest, LinesPut};
+ghost use Rattle.lister.specs.Inside.Steps.{Headed, Listable, longest, LinesPut};
 use keys::Distinct;
 use listing::put_accepted;
 use listing::put_order;

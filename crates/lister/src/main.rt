@@ -10,7 +10,7 @@ ghost use mathlib.Core.Path.{_≡_};
 ghost use Prim.Native.Nat.{_≤_};
 ghost use lib.ListN.{length};
 ghost use Rattle.lister.specs.Listing.{listingOf};
-ghost use Rattle.lister.specs.Steps.{Reached, RanSo};
+ghost use Rattle.lister.specs.Inside.Steps.{Reached, RanSo};
 ghost use Rattle.paper.specs.Limits.{mostBytes};
 use input::judging::judge_bytes;
 use input::words::fill_words;

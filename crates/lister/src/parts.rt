@@ -4,7 +4,7 @@ ghost use mathlib.Core.Path.{_≡_};
 ghost use Prim.Native.Nat.{_<_, _≤_};
 ghost use lib.ListN.{length};
 ghost use Rattle.lister.specs.Listing.{pieces};
-ghost use Rattle.lister.specs.Steps.{Listable, ListableIf, PartPut};
+ghost use Rattle.lister.specs.Inside.Steps.{Listable, ListableIf, PartPut};
 ghost use Rattle.paper.specs.Limits.{mostBytes};
 use crate::lines::put_head;
 use crate::lines::put_lines;

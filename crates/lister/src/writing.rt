@@ -1,6 +1,6 @@
 // The listing of the bytes that were read, written out part after part.
 ghost use Rattle.lister.specs.Listing.{listingOf};
-ghost use Rattle.lister.specs.Steps.{Prepared, Reached};
+ghost use Rattle.lister.specs.Inside.Steps.{Prepared, Reached};
 use crate::basis::basis_of;
 use crate::output::Written;
 use crate::output::is_whole;

@@ -10,7 +10,7 @@ use lib.Dec.{ltb}
 use lib.ListN.{length, set, length-append}
 use borrow.Author.Tests.{ltb-true, ltb-false, lt-ltb, le-ltb}
 use Rattle.listing.specs.Text.{digits, decimal}
-use Rattle.listing.specs.Placed.{placed}
+use Rattle.listing.specs.Inside.Placed.{placed}
 use Rattle.listing.proofs.Placing.{placed-byte, placed-before}
 
 -- below m, or not

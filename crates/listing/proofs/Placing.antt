@@ -8,7 +8,7 @@ use mathlib.Core.Path.{_≡_, refl, sym, ap, _∙_}
 use mathlib.Core.List.{List, [], _∷_, _++_, append-assoc, append-nil}
 use lib.ListN.{length, getD, take, drop, set, length-append, length-drop, take-append-drop}
 use lib.Seq.{length-take-le, take-suc, take-append-le, take-take, take-at, drop-at, drop-drop, set-split, append-snoc}
-use Rattle.listing.specs.Placed.{placed, Put}
+use Rattle.listing.specs.Inside.Placed.{placed, Put}
 
 pub placed-nothing : (old : List ℕ) (at : ℕ) → placed old at [] ≡ old
 unfolding placed

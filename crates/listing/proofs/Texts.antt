@@ -13,7 +13,7 @@ use lib.Seq.{length-take-le, take-suc}
 use borrow.Author.Tests.{eq-eqb, ne-eqb}
 use Rattle.marks.specs.Marks.{positionsFrom, positions}
 use Rattle.listing.specs.Text.{field, fields}
-use Rattle.listing.specs.Placed.{Put}
+use Rattle.listing.specs.Inside.Placed.{Put}
 use Rattle.listing.proofs.Placing.{put-then}
 
 pub fields-append : (ms ns : List ℕ) → fields (ms ++ ns) ≡ fields ms ++ fields ns

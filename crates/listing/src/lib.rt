@@ -6,7 +6,7 @@ ghost use lib.ListN.{length};
 ghost use mathlib.Core.List.{[], _∷_};
 ghost use Rattle.marks.specs.Marks.{positionsFrom, positions};
 ghost use Rattle.listing.specs.Text.{decimal, field, fields, acceptedLine, orderLine, transitionLine, refusedLine};
-ghost use Rattle.listing.specs.Placed.{Put};
+ghost use Rattle.listing.specs.Inside.Placed.{Put};
 
 // One byte.
 pub fn put_byte(buf: &mut [u8], at: usize, b: u8) -> usize

@@ -11,7 +11,8 @@ use lib.Seq.{take-suc, getD-set-same, getD-set-other}
 use borrow.Author.Tests.{eqb-true, eqb-false}
 use Rattle.paper.specs.Formula.{ℓ}
 use Rattle.paper.proofs.Lists.{any-append}
-use Rattle.marks.specs.Marks.{isMarked, Marked, AllBelow}
+use Rattle.marks.specs.Marks.{isMarked}
+use Rattle.marks.specs.Inside.Chosen.{Marked, AllBelow}
 
 pub marked-none : Marked [] (replicate 4096 0)
 unfolding isMarked

@@ -10,7 +10,8 @@ use borrow.Author.Tests.{eqb-true, eqb-false}
 use Rattle.paper.specs.declared.Label.{Label}
 use Rattle.paper.specs.Outcome.{OneOutcome}
 use Rattle.paper.proofs.Outcome.{by-equation, by-entries}
-use Rattle.marks.specs.Marks.{isMarked, MarkedExactly}
+use Rattle.marks.specs.Marks.{isMarked}
+use Rattle.marks.specs.Inside.Chosen.{MarkedExactly}
 use Rattle.marks.proofs as marks
 
 -- bytes that are 0 or 1 and say the same are the same

@@ -16,7 +16,7 @@ use Rattle.entries.specs.First.{first}
 use Rattle.rows.specs.Rows.{argOf}
 use Rattle.entries.proofs.First.{first-found, first-none, first-same}
 use Rattle.rows.proofs.Meets.{lt-or-le}
-use Rattle.net.specs.Net.{guardsFrom, nextsFrom, firstsFrom, netLength, Parents, Guards, Net, Only, IndexWord, firstWith}
+use Rattle.net.specs.Inside.Net.{guardsFrom, nextsFrom, firstsFrom, netLength, Parents, Guards, Net, Only, IndexWord, firstWith}
 use Rattle.net.proofs.Notes.{parents-kept, guards-kept}
 
 -- a search that passed one number goes on with the rest

@@ -13,9 +13,10 @@ use Rattle.paper.proofs.Bools.{and-left, and-right, both, not-so, or-left, or-r
 use Rattle.rows.specs.Rows.{kindOf, endOf}
 use Rattle.entries.proofs.First.{first-found, first-none}
 use Rattle.rows.proofs.Meets.{lt-or-le}
-use Rattle.net.specs.Prior.{isUnder, overBoth, shareBranchIn}
-use Rattle.net.specs.Net.{Tree, Parents, Cleared, towards, clearTo}
-use Rattle.net.proofs.Last.{last-is}
+use Rattle.rows.specs.Inside.Tree.{isUnder}
+use Rattle.net.specs.Inside.Prior.{overBoth, shareBranchIn}
+use Rattle.net.specs.Inside.Net.{Tree, Parents, Cleared, towards, clearTo}
+use Rattle.paper.proofs.Last.{last-is}
 use Rattle.net.proofs.Climb.{under, under-from, under-to, under-not, Parent, parent-by}
 
 -- where two candidates share a branch, or not

@@ -12,9 +12,9 @@ use borrow.Author.Tests.{ltb-true, ltb-false, leb-true, lt-ltb, le-ltb, le-leb}
 use Rattle.paper.proofs.Bools.{and-left, and-right, both, pick}
 use Rattle.rows.specs.Rows.{endOf}
 use Rattle.rows.proofs.Meets.{lt-or-le}
-use Rattle.net.specs.Prior.{isUnder, parentOf}
-use Rattle.net.specs.Net.{Tree}
-use Rattle.net.proofs.Last.{last-is, last-of}
+use Rattle.rows.specs.Inside.Tree.{isUnder, parentOf}
+use Rattle.net.specs.Inside.Net.{Tree}
+use Rattle.paper.proofs.Last.{last-is, last-of}
 
 module _ (rows : List ℕ) where
   -- row i lies in the subtree of row a, or not

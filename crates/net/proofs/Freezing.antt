@@ -22,8 +22,10 @@ use Rattle.paper.proofs.Frozen.{frozen-at-site}
 use Rattle.rows.specs.Rows.{endOf}
 use Rattle.written.specs.Written.{size}
 use Rattle.written.proofs.Writes.{RowIs, StarIs, Writes, WritesAll}
-use Rattle.net.specs.Prior.{upTo, isGuarded, starReads, around, isFrozen}
-use Rattle.net.proofs.UpTo.{any-next, any-past, any-map}
+use Rattle.paper.specs.Lists.{upTo}
+use Rattle.rows.specs.Inside.Tree.{isGuarded}
+use Rattle.net.specs.Inside.Prior.{starReads, around, isFrozen}
+use Rattle.paper.proofs.UpTo.{any-next, any-past, any-map}
 use Rattle.net.proofs.Spans.{rises, ends-inside, Among, past-row, past-star, no-candidate, own-row, either-part}
 
 -- what a star reads is what its row says

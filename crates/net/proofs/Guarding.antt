@@ -12,9 +12,9 @@ use borrow.Author.Tests.{ltb-true, lt-ltb, le-ltb}
 use Rattle.paper.proofs.Bools.{pick, same-answer}
 use Rattle.rows.specs.Rows.{kindOf, endOf}
 use Rattle.rows.proofs.Meets.{lt-or-le}
-use Rattle.net.specs.Prior.{isGuarded, guardOf}
-use Rattle.net.specs.Net.{Tree}
-use Rattle.net.proofs.Last.{after-is, after-more, after-same}
+use Rattle.rows.specs.Inside.Tree.{isGuarded, guardOf}
+use Rattle.net.specs.Inside.Net.{Tree}
+use Rattle.paper.proofs.Last.{after-is, after-more, after-same}
 use Rattle.net.proofs.Climb.{Parent}
 
 module _ (rows : List ℕ) (i : ℕ) where

@@ -1,11 +1,9 @@
-pub mod Last
 pub mod Climb
 pub mod Notes
 pub mod Guarding
 pub mod Chains
 pub mod Clear
 pub mod Sound
-pub mod UpTo
 pub mod Spans
 pub mod Sharing
 pub mod Freezing

@@ -7,8 +7,8 @@ use mathlib.Core.List.{List}
 use lib.ListN.{length, getD, set, length-set}
 use lib.Seq.{getD-set-same, getD-set-other}
 use borrow.Author.Count.{below-more}
-use Rattle.net.specs.Prior.{parentOf, guardOf}
-use Rattle.net.specs.Net.{guardsFrom, nextsFrom, netLength, Parents, Guards, Only}
+use Rattle.rows.specs.Inside.Tree.{parentOf, guardOf}
+use Rattle.net.specs.Inside.Net.{guardsFrom, nextsFrom, netLength, Parents, Guards, Only}
 
 module _ (rows : List ℕ) {#N : ℕ} {net : List ℕ} where
   module _ (few : #N ≤ 4096) (at word : ℕ) where

@@ -16,8 +16,8 @@ use Rattle.paper.specs.Order.{isReady, greedyBy, leads, onCycle, order}
 use Rattle.paper.proofs.Bools.{pick}
 use Rattle.paper.proofs.Lists.{any-same, of-those}
 use Rattle.rows.proofs.Meets.{lt-or-le}
-use Rattle.net.specs.Prior.{upTo}
-use Rattle.net.proofs.UpTo.{length-upTo, below-of, any-map, those-map}
+use Rattle.paper.specs.Lists.{upTo}
+use Rattle.paper.proofs.UpTo.{length-upTo, below-of, any-map, those-map}
 
 -- two tests that answer alike on the members take the same ones
 those-same : {X : Type 0} (p q : X → Bool) (xs : List X) → ((a : X) → List·Memᴰ a xs → p a ≡ q a) → those p xs ≡ those q xs

@@ -10,7 +10,7 @@ use Rattle.paper.specs.Outcome.{OneOutcome}
 use Rattle.paper.proofs.Bools.{pick}
 use Rattle.paper.proofs.Outcome.{by-equation, by-entries}
 use Rattle.rows.proofs.Meets.{lt-or-le}
-use Rattle.net.specs.Net.{guardsFrom, nextsFrom, firstsFrom, netLength, Chosen, Noted, ParentWord, GuardWord, IndexWord}
+use Rattle.net.specs.Inside.Net.{guardsFrom, nextsFrom, firstsFrom, netLength, Chosen, Noted, ParentWord, GuardWord, IndexWord}
 use Rattle.net.proofs as net
 
 -- a word of a part, by its place there

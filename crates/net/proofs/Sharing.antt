@@ -26,8 +26,9 @@ use Rattle.rows.specs.Rows.{kindOf, endOf}
 use Rattle.written.specs.Written.{size, labelsOn}
 use Rattle.rows.proofs.Meets.{lt-or-le}
 use Rattle.written.proofs.Writes.{RowIs, StarIs, Writes, WritesAll}
-use Rattle.net.specs.Prior.{isUnder, overBoth, shareBranchIn}
-use Rattle.net.proofs.UpTo.{last-is}
+use Rattle.rows.specs.Inside.Tree.{isUnder}
+use Rattle.net.specs.Inside.Prior.{overBoth, shareBranchIn}
+use Rattle.paper.proofs.UpTo.{last-is}
 use Rattle.net.proofs.Spans.{labels-between, labels-count, labels-count-all, ends-inside, Among, past-row, past-star, no-candidate, own-row, either-part}
 
 -- every formula has a branch, which holds all of no labels

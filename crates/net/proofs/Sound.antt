@@ -13,7 +13,7 @@ use Rattle.rows.specs.Rows.{kindOf, argOf, endOf, formOf, guarded, starRule, ca
 use Rattle.rows.proofs.Meets.{child, no-child, lt-or-le}
 use Rattle.rows.proofs.Nested.{nested}
 use Rattle.rows.proofs.Rules.{kept, no-form, root-ends}
-use Rattle.net.specs.Net.{Tree, Chosen}
+use Rattle.net.specs.Inside.Net.{Tree, Chosen}
 
 module _ (rows reads : List ℕ) (#V #N : ℕ) (keep : (i : ℕ) → i < #N → keepsRules rows reads #V #N i ≡ true) (room : 4 * #N ≤ length rows)
     (few : #N ≤ 4096) where

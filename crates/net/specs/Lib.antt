@@ -1,2 +1,1 @@
-pub mod Prior
-pub mod Net
+pub mod Inside

@@ -7,7 +7,7 @@ use Rattle.filling.specs.declared.Length.{Length}
 use Rattle.filling.specs.declared.Filled.the-variants as filled
 use Rattle.answers.specs.declared.Counts.{Counts}
 use Rattle.answers.specs.declared.Answer.the-variants as answer
-use Rattle.answers.specs.Requests.{FitCounts}
+use Rattle.answers.specs.Inside.Judged.{FitCounts}
 use Rattle.nocturenc.specs.Packed.{refusedAs, countsOf, packedAnswer, packedFilled, ReadRefusal, ReadFilling, AnswerPacked}
 
 pub read-counts : (c : Counts) (n : ℕ) → FitCounts c → n ≡ countsOf c → AnswerPacked (answer.Accepted c) n

@@ -1,7 +1,8 @@
 // The requests for C: the words, the lent slice and the number k come in, and each answer goes out packed in one number.
 ghost use mathlib.Core.Path.{_≡_};
 ghost use lib.ListN.{length};
-ghost use Rattle.answers.specs.Requests.{judgeOf, FitCounts, FitFilled, orderOf, transitionOf, assignmentsOf};
+ghost use Rattle.answers.specs.Requests.{judgeOf, orderOf, transitionOf, assignmentsOf};
+ghost use Rattle.answers.specs.Inside.Judged.{FitCounts, FitFilled};
 ghost use Rattle.nocturenc.specs.Packed.{refusedAs, countsOf, packedFilled, ReadRefusal, ReadFilling, AnswerPacked, FillsPacked};
 use crate::requests::assignments;
 use crate::requests::judge;

@@ -15,11 +15,11 @@ use Rattle.paper.specs.Lists.{those}
 use Rattle.paper.specs.Order.{isReady, greedyBy}
 use Rattle.paper.proofs.Bools.{and-right}
 use Rattle.paper.proofs.Lists.{those-all}
-use Rattle.net.specs.Prior.{upTo}
+use Rattle.paper.specs.Lists.{upTo}
 use Rattle.entries.specs.Front.{inFront}
-use Rattle.ordering.specs.Reported.{labelled}
-use Rattle.fingers.specs.Graph.{Graph, free, leftOf, Started}
-use Rattle.ordering.specs.Placing.{State, Lowest, rest, Placing}
+use Rattle.ordering.specs.Inside.Reported.{labelled}
+use Rattle.fingers.specs.Inside.Graph.{Graph, free, leftOf, Started}
+use Rattle.ordering.specs.Inside.Placing.{State, Lowest, rest, Placing}
 use Rattle.fingers.proofs.Tests.{by-eq, by-lt, never}
 use Rattle.fingers.proofs.Kept.{length-upTo, some-kept, none-some, none-kept, first-kept}
 use Rattle.fingers.proofs.Left.{freed, was-free, left-after, left-shorter}

@@ -10,8 +10,8 @@ use lib.Seq.{getD-set-same, getD-set-other}
 use borrow.Author.Count.{below-more}
 use borrow.Author.Tests.{ltb-true}
 use Rattle.paper.proofs.Bools.{and-left, and-right}
-use Rattle.fingers.specs.Graph.{Graph, Next, free, outside}
-use Rattle.ordering.specs.Placing.{Blocked, State, Lowered, Visited}
+use Rattle.fingers.specs.Inside.Graph.{Graph, Next, free, outside}
+use Rattle.ordering.specs.Inside.Placing.{Blocked, State, Lowered, Visited}
 use Rattle.fingers.proofs.Tests.{by, never, at-set}
 use Rattle.fingers.proofs.Seeking.{outside-free, next-alike}
 

@@ -1,2 +1,1 @@
-pub mod Reported
-pub mod Placing
+pub mod Inside

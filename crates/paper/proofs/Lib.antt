@@ -22,3 +22,5 @@ pub mod Cases
 pub mod FurtherCases
 pub mod ManyTransitions
 pub mod Theorems
+pub mod UpTo
+pub mod Last

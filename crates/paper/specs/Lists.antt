@@ -1,6 +1,6 @@
 -- Lists read as finite sets (document 001 speaks of sets of labels, variables and branches).
 -- Tests are Bool-valued, so that every definition over them computes.
-use Prim.Native.Nat.{ℕ, suc}
+use Prim.Native.Nat.{ℕ, zero, suc}
 use mathlib.Core.Bool.{Bool, true, false, cond, _&&_, _||_}
 use mathlib.Core.List.{List, [], _∷_, _++_, map}
 
@@ -29,3 +29,13 @@ module _ {A : Type 0} where
 abbrev pub pairs : {A : Type 0} → List (List A) → List (List A) → List (List A)
 pairs [] ys = []
 pairs (x ∷ xs) ys = map (λ y. x ++ y) ys ++ pairs xs ys
+
+-- the numbers 0 to n - 1
+abbrev pub upTo : ℕ → List ℕ
+upTo zero = []
+upTo (suc n) = upTo n ++ (n ∷ [])
+
+-- the last number below n that passes a test, or `none`
+abbrev pub lastOf : (ℕ → Bool) → ℕ → ℕ → ℕ
+lastOf p none zero = none
+lastOf p none (suc n) = cond (p n) n (lastOf p none n)

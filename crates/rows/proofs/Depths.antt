@@ -12,7 +12,8 @@ use lib.Dec.{ltb}
 use borrow.Author.Tests.{ltb-true, lt-ltb, le-ltb}
 use Rattle.paper.proofs.Bools.{same-answer, pick}
 use Rattle.entries.specs.First.{first}
-use Rattle.rows.specs.Rows.{endOf, keepsRules, roundOf, depthOf, isDeep, Nested}
+use Rattle.rows.specs.Rows.{endOf, keepsRules, roundOf, depthOf, isDeep}
+use Rattle.rows.specs.Inside.Looks.{Nested}
 use Rattle.entries.proofs.First.{first-found, first-none, first-below, first-at, first-same}
 use Rattle.rows.proofs.Meets.{lt-or-le}
 use Rattle.rows.proofs.Rules.{root-ends}

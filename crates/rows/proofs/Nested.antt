@@ -8,7 +8,8 @@ use mathlib.Core.Bool.{true}
 use mathlib.Core.List.{List}
 use lib.ListN.{length}
 use Rattle.paper.proofs.Bools.{pick}
-use Rattle.rows.specs.Rows.{kindOf, endOf, formOf, meets, keepsRules, Nested}
+use Rattle.rows.specs.Rows.{kindOf, endOf, formOf, meets, keepsRules}
+use Rattle.rows.specs.Inside.Looks.{Nested}
 use Rattle.rows.proofs.Meets.{child, meets-le, Holder, holder-of}
 use Rattle.rows.proofs.Rules.{star-form, Guards, Says, children-meet, kept}
 

@@ -8,7 +8,7 @@ use mathlib.Core.List.{List}
 use lib.ListN.{length}
 use Rattle.rows.specs.Rows.{kindOf, argOf, endOf, Form, aFALSE, aStar, aCandidate, aConjunction}
 use Rattle.rows.specs.Rows.{aDisjunction, anExists, anIF, noForm, formOf, meets, keepsRules}
-use Rattle.rows.specs.Walk.{expressions, firstUnder, Shaped}
+use Rattle.rows.specs.Inside.Walk.{expressions, firstUnder, Shaped}
 use Rattle.rows.proofs.Meets.{of-no-child}
 use Rattle.rows.proofs.Rules.{KindIs, is-FALSE, is-star, is-candidate, is-conjunction, is-disjunction, is-exists}
 use Rattle.rows.proofs.Rules.{is-IF, is-none, kind-is, JoinSays, Says, kept}

@@ -13,7 +13,7 @@ use Rattle.paper.specs.Formula.{ℓ, 𝓋, Formula}
 use Rattle.paper.specs.Structure.Fold.{Fold, foldOf, foldAll}
 use Rattle.rows.specs.Rows.{kindOf, argOf, endOf, Form, aFALSE, aStar, aCandidate, aConjunction, aDisjunction, anExists, anIF, noForm, formOf, meets}
 use Rattle.rows.specs.Formula.{starAt, childrenAt, nodeAt, formulaAt}
-use Rattle.rows.specs.Walk.{expressions, firstUnder, expressionsAt, firstAt, Shaped, Walkable, skeletonAt, valueAt, joinedFrom}
+use Rattle.rows.specs.Inside.Walk.{expressions, firstUnder, expressionsAt, firstAt, Shaped, Walkable, skeletonAt, valueAt, joinedFrom}
 use Rattle.rows.proofs.Forms.{by-form}
 use Rattle.rows.proofs.Rules.{number-of}
 use Rattle.rows.proofs.Meets.{Child, child}

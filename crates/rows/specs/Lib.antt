@@ -1,3 +1,3 @@
 pub mod Rows
 pub mod Formula
-pub mod Walk
+pub mod Inside

@@ -1,11 +1,11 @@
 -- The rows of a table, four words each from the first row's kind word on, and the rules of one row
 -- (document 01, the table of kinds and the paragraph after it; refusals 6, 7 and 8).
-use Prim.Native.Nat.{ℕ, zero, suc, _+_, _*_, _<_, _≤_}
+use Prim.Native.Nat.{ℕ, zero, suc, _+_, _*_}
 use mathlib.Core.Bool.{Bool, false, cond, not, _&&_}
 use mathlib.Core.List.{List}
-use lib.ListN.{length, getD, drop}
+use lib.ListN.{getD, drop}
 use lib.Dec.{ltb, leb, eqb}
-use Rattle.paper.specs.Limits.{mostDepth, mostRows}
+use Rattle.paper.specs.Limits.{mostDepth}
 use Rattle.entries.specs.Entries.{ascend}
 
 -- the words of row i
@@ -123,17 +123,3 @@ depthOf rows i = roundOf rows i (suc i)
 -- refusal 8: row i is deeper than 64
 abbrev pub isDeep : List ℕ → ℕ → Bool
 isDeep rows i = ltb mostDepth (depthOf rows i)
-
--- What a look at row i asks: there are words for #N rows, as many as a table may have, and i is one of them.
-pub record InRows (rows : List ℕ) (#N i : ℕ) : Type 0 where
-  pub room : 4 * #N ≤ length rows
-  pub few : #N ≤ mostRows
-  pub here : i < #N
-
--- What a walk down the rows asks: a subtree ends after its row and within #N, and subtrees lie within one another or apart.
-pub record Nested (rows : List ℕ) (#N : ℕ) : Type 0 where
-  pub room : 4 * #N ≤ length rows
-  pub few : #N ≤ mostRows
-  pub rises : (i : ℕ) → i < #N → i < endOf rows i
-  pub within : (i : ℕ) → i < #N → endOf rows i ≤ #N
-  pub nested : (i j : ℕ) → i < j → j < endOf rows i → endOf rows i ≤ #N → endOf rows j ≤ endOf rows i

@@ -2,7 +2,8 @@
 ghost use mathlib.Core.Path.{_≡_};
 ghost use Prim.Native.Nat.{_+_, _-_, _<_};
 ghost use Rattle.entries.specs.First.{first};
-ghost use Rattle.rows.specs.Rows.{Nested, endOf, depthOf, isDeep};
+ghost use Rattle.rows.specs.Rows.{endOf, depthOf, isDeep};
+ghost use Rattle.rows.specs.Inside.Looks.{Nested};
 ghost use Rattle.paper.specs.Limits.{mostDepth};
 use crate::end_of;
 use paper::Label;

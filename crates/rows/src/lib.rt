@@ -6,7 +6,8 @@ ghost use lib.ListN.{length};
 ghost use Rattle.paper.specs.Formula.{ℓ};
 ghost use Rattle.entries.specs.First.{first};
 ghost use Rattle.rows.specs.Rows.{kindOf, argOf, endOf, fromOf, formOf, meets, takes, takenBefore, guarded};
-ghost use Rattle.rows.specs.Rows.{falseRule, starRule, candidateRule, joinRule, boundRule, endsWithin, keepsRules, breaksRules, InRows};
+ghost use Rattle.rows.specs.Rows.{falseRule, starRule, candidateRule, joinRule, boundRule, endsWithin, keepsRules, breaksRules};
+ghost use Rattle.rows.specs.Inside.Looks.{InRows};
 ghost use Rattle.paper.specs.Limits.{mostRows};
 
 pub mod depth; // how deep rows lie: refusal 8

@@ -3,7 +3,7 @@ ghost use mathlib.Core.Path.{_≡_};
 ghost use Prim.Native.Nat.{_+_, _*_, _≤_, _<_};
 ghost use lib.ListN.{length};
 ghost use Rattle.paper.specs.Formula.{ℓ};
-ghost use Rattle.rows.specs.Walk.{expressionsAt, firstAt};
+ghost use Rattle.rows.specs.Inside.Walk.{expressionsAt, firstAt};
 ghost use Rattle.paper.specs.Limits.{mostRows};
 use crate::arg_of;
 use crate::kind_of;

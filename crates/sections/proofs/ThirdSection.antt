@@ -11,7 +11,8 @@ use lib.ListN.{length, getD, drop}
 use Rattle.sections.specs.declared.Cursor.{Cursor}
 use Rattle.sections.specs.declared.Step.the-variants.{Next}
 use Rattle.entries.specs.First.{first}
-use Rattle.rows.specs.Rows.{kindOf, argOf, takenBefore, keepsRules, breaksRules, depthOf, isDeep, Nested}
+use Rattle.rows.specs.Rows.{kindOf, argOf, takenBefore, keepsRules, breaksRules, depthOf, isDeep}
+use Rattle.rows.specs.Inside.Looks.{Nested}
 use Rattle.sections.specs.Sections.{halt, openAt, rowsAt}
 use Rattle.entries.proofs.First.{first-le, first-all}
 use Rattle.rows.proofs.Taken.{takes-le, taken-there}

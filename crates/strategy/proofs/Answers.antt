@@ -33,22 +33,23 @@ use Rattle.table.specs.Table.{checked, rowsIn, readsIn, chosenIn}
 use Rattle.written.specs.Tables.{formulaIn}
 use Rattle.cover.specs.declared.Covering.the-variants.{Missed, Doubled}
 use Rattle.cover.specs.declared.Covering.the-variants as Covering
-use Rattle.marks.specs.Marks.{Marked}
-use Rattle.cover.specs.Masks.{coveringOf, judgementOf}
-use Rattle.keys.specs.Keys.{total, keysAt}
+use Rattle.marks.specs.Inside.Chosen.{Marked}
+use Rattle.cover.specs.Inside.Masks.{coveringOf, judgementOf}
+use Rattle.keys.specs.Inside.Keys.{total, keysAt}
 use Rattle.cover.proofs.CoveringSays.{covering-says, gives-covered}
 use Rattle.keys.proofs.KeyNumbers.{keys-past-limit, keys-number}
-use Rattle.cycles.specs.Cyclic.{lowestOnCycle}
+use Rattle.cycles.specs.Inside.Cyclic.{lowestOnCycle}
 use Rattle.entries.specs.Front.{inFront}
-use Rattle.ordering.specs.Reported.{OrderFilled}
-use Rattle.filling.specs.Filling.{copied}
+use Rattle.ordering.specs.Inside.Reported.{OrderFilled}
+use Rattle.filling.specs.Inside.Copied.{copied}
 use Rattle.verdict.specs.declared.Accepted.{Accepted}
 use Rattle.verdict.specs.declared.Judged.{Judged}
 use Rattle.verdict.specs.declared.Judged.the-variants as answer
-use Rattle.verdict.specs.Verdict.{refusedAt, asJudged, isStranger, countedAs}
+use Rattle.verdict.specs.Verdict.{refusedAt, asJudged}
+use Rattle.verdict.specs.Inside.Found.{isStranger, countedAs}
 use Rattle.verdict.proofs.Answers.{counted-answer}
 use Rattle.strategy.specs.Judge.{proposalOf, proposalIn, judgedOf, wordsOfOrder, leftBy, orderIn, orderLeft, JudgedInto}
-use Rattle.strategy.specs.Judge.{Parts, formulaOf, Covered, JudgedBy, OrderedParts, JudgedParts}
+use Rattle.strategy.specs.Inside.Parts.{Parts, formulaOf, Covered, JudgedBy, OrderedParts, JudgedParts}
 use Rattle.strategy.proofs.Held.{lentRows, lentReads, lentChosen, of-lent, walkable, few-labels}
 use Rattle.strategy.proofs.Strangers.{first-stranger, no-stranger}
 use Rattle.strategy.proofs.Placed.{choice, some-cycle, reported-length, order-fits, order-refuses, order-passes, order-left}

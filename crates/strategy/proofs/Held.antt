@@ -15,7 +15,7 @@ use Rattle.table.specs.declared.Checked.the-variants.{Sound}
 use Rattle.rows.specs.Rows.{kindOf, argOf, fromOf, Form, aFALSE, aStar, aCandidate, aConjunction, aDisjunction, anExists, anIF, noForm, formOf}
 use Rattle.table.specs.Table.{checked, rowsIn, readsIn, chosenIn}
 use Rattle.rows.specs.Formula.{formulaAt}
-use Rattle.rows.specs.Walk.{Walkable}
+use Rattle.rows.specs.Inside.Walk.{Walkable}
 use Rattle.written.specs.Written.{size, Ascend}
 use Rattle.written.proofs.Words.{of-rising}
 use Rattle.written.proofs.Writes.{Writes}
@@ -27,12 +27,12 @@ use Rattle.rows.proofs.Shaped.{shaped}
 use Rattle.rows.proofs.Taken.{taken-there}
 use Rattle.table.proofs.Laid.{accepted}
 use Rattle.written.proofs.Tables.{understood}
-use Rattle.marks.specs.Marks.{AllBelow}
-use Rattle.net.specs.Net.{Chosen, Net}
+use Rattle.marks.specs.Inside.Chosen.{AllBelow}
+use Rattle.net.specs.Inside.Net.{Chosen, Net}
 use Rattle.net.proofs.Sound.{chosen-of}
 use Rattle.net.proofs.Spans.{labels-count, labels-between}
-use Rattle.fingers.specs.Ready.{Ready}
-use Rattle.strategy.specs.Judge.{Parts}
+use Rattle.fingers.specs.Inside.Ready.{Ready}
+use Rattle.strategy.specs.Inside.Parts.{Parts}
 
 pub parts-of : (words : List ℕ) (l : Layout) → checked words ≡ Sound l
     → Parts (rowsIn words l) (readsIn words l) (chosenIn words l) (l .variables) (l .rows)

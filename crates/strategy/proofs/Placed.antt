@@ -22,13 +22,14 @@ use Rattle.paper.proofs.Cycle.{chain-starts}
 use Rattle.paper.proofs.Order.{order-exists, before-between}
 use Rattle.rows.specs.Rows.{kindOf}
 use Rattle.rows.proofs.Meets.{lt-or-le}
-use Rattle.net.specs.Net.{Chosen, Net}
+use Rattle.net.specs.Inside.Net.{Chosen, Net}
 use Rattle.net.proofs.PriorIsBefore.{order-by-rows, cycle-by-rows}
-use Rattle.cycles.specs.Cyclic.{isOnCycle, lowestOnCycle}
+use Rattle.cycles.specs.Inside.Cyclic.{isOnCycle, lowestOnCycle}
 use Rattle.entries.specs.Front.{inFront}
-use Rattle.ordering.specs.Reported.{ordered, labelled, OrderFilled}
-use Rattle.fingers.specs.Ready.{Ready}
-use Rattle.strategy.specs.Judge.{Parts, Covered, formulaOf, proposalOf, wordsOfOrder}
+use Rattle.ordering.specs.Inside.Reported.{ordered, labelled, OrderFilled}
+use Rattle.fingers.specs.Inside.Ready.{Ready}
+use Rattle.strategy.specs.Judge.{proposalOf, wordsOfOrder}
+use Rattle.strategy.specs.Inside.Parts.{Parts, Covered, formulaOf}
 use Rattle.strategy.proofs.Held.{parts-write, rows-are, ascend-all, chosen-rows, ready}
 use Rattle.strategy.proofs.Strangers.{offender, none-offends, kinds-of}
 

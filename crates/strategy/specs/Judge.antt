@@ -1,28 +1,23 @@
 -- The judgement of a table's words (document 01, "Refusal numbers, in the order of checks"): refusals 1, 2, 4 to 9 and 3 as the
 -- table's own checks find them, then 10 to 14 as document 001's judgement of the formula that the words write; or what is known
 -- of an accepted table.
-use Prim.Native.Nat.{ℕ, _*_, _<_, _≤_}
-use mathlib.Core.Bool.{true}
+use Prim.Native.Nat.{ℕ, _≤_}
 use mathlib.Core.Path.{_≡_}
 use mathlib.Core.Logic.{_↔_}
-use mathlib.Core.List.{List, [], map}
-use lib.ListN.{length, getD}
-use Rattle.paper.specs.Limits.{mostDepth, mostReads, mostRows, mostTransitions, mostVariables}
+use mathlib.Core.List.{List, map}
+use lib.ListN.{length}
+use Rattle.paper.specs.Limits.{mostTransitions}
 use Rattle.paper.specs.declared.Label.{Label}
-use Rattle.paper.specs.Formula.{ℓ, Formula, WellFormed}
+use Rattle.paper.specs.Formula.{ℓ, Formula}
 use Rattle.paper.specs.Before.{before}
 use Rattle.paper.specs.Order.{order}
 use Rattle.paper.specs.Strategy.{Strategy}
 use Rattle.paper.specs.Transition.{keys}
-use Rattle.paper.specs.Judgement.{Judgement, strangers, missed, doubled, judgeOrder, judge}
+use Rattle.paper.specs.Judgement.{judge}
 use Rattle.table.specs.declared.Layout.{Layout}
 use Rattle.table.specs.declared.Checked.{Checked}
 use Rattle.table.specs.declared.Checked.the-variants.{Sound, Refused}
-use Rattle.entries.specs.First.{first}
-use Rattle.rows.specs.Rows.{keepsRules, isDeep}
 use Rattle.table.specs.Table.{checked, chosenIn}
-use Rattle.rows.specs.Formula.{formulaAt}
-use Rattle.written.specs.Written.{Ascend}
 use Rattle.written.specs.Tables.{formulaIn}
 use Rattle.entries.specs.Front.{inFront}
 use Rattle.verdict.specs.declared.Judged.{Judged}
@@ -78,42 +73,3 @@ pub record AcceptedSo (words : List ℕ) (l : Layout) (t : ℕ) : Type 0 where
 -- words are accepted exactly if it is so (proofs/Exactly.antt)
 abbrev pub AcceptedExactly : List ℕ → Layout → ℕ → Type 0
 AcceptedExactly words l t = (judgedOf words ≡ acceptedWith l t) ↔ AcceptedSo words l t
-
--- What the judgement of sound parts asks: rows that keep their rules, no deeper than 64, which so write the formula that is read
--- from them, with reads that are variables, and chosen labels of those rows, strictly ascending.
-pub record Parts (rows reads chosen : List ℕ) (#V #N : ℕ) : Type 0 where
-  pub room : 4 * #N ≤ length rows
-  pub some-rows : 1 ≤ #N
-  pub most-rows : #N ≤ mostRows
-  pub most-variables : #V ≤ mostVariables
-  pub most-reads : length reads ≤ mostReads
-  pub keeps : (i : ℕ) → i < #N → keepsRules rows reads #V #N i ≡ true
-  pub shallow : first (isDeep rows) #N ≡ #N
-  pub well-formed : WellFormed #V (formulaAt rows reads mostDepth 0)
-  pub reads-below : (r : ℕ) → r < length reads → getD reads r 0 < #V
-  pub below : (k : ℕ) → k < length chosen → getD chosen k 0 < #N
-  pub ascends : Ascend chosen
-
--- the formula of parts
-abbrev pub formulaOf : List ℕ → List ℕ → Formula
-formulaOf rows reads = formulaAt rows reads mostDepth 0
-
--- parts that passed 10, 11 and 12
-pub record Covered (rows reads chosen : List ℕ) (#V #N : ℕ) : Type 0 where
-  pub parts : Parts rows reads chosen #V #N
-  pub no-strangers : strangers (formulaOf rows reads) (proposalOf chosen) ≡ []
-  pub none-missed : missed #V (formulaOf rows reads) (proposalOf chosen) ≡ []
-  pub none-doubled : doubled #V (formulaOf rows reads) (proposalOf chosen) ≡ []
-
-module _ (rows reads chosen : List ℕ) (l : Layout) (lent left : List ℕ) (r : Judged) where
-  -- a judgement of parts: its answer, and what it leaves in the words lent for the order
-  pub record JudgedBy (j : Judgement) : Type 0 where
-    pub answered : r ≡ asJudged l j
-    pub left-so : left ≡ leftBy (asJudged l j) (λ _. wordsOfOrder (formulaOf rows reads) (proposalOf chosen)) lent
-
-  -- the last two checks, and all five
-  abbrev pub OrderedParts : Type 0
-  OrderedParts = JudgedBy (judgeOrder (l .variables) (formulaOf rows reads) (proposalOf chosen))
-
-  abbrev pub JudgedParts : Type 0
-  JudgedParts = JudgedBy (judge (l .variables) (formulaOf rows reads) (proposalOf chosen))

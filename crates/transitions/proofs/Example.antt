@@ -12,13 +12,13 @@ use Rattle.entries.specs.First.{first}
 use Rattle.rows.specs.Rows.{formOf, meets, takenBefore, falseRule, starRule, candidateRule, joinRule, boundRule, endsWithin, keepsRules}
 use Rattle.entries.specs.Entries.{ascend}
 use Rattle.rows.specs.Formula.{starAt, childrenAt, nodeAt, formulaAt}
-use Rattle.rows.specs.Walk.{valueAt}
+use Rattle.rows.specs.Inside.Walk.{valueAt}
 use Rattle.written.specs.Example.{P}
 use Rattle.rows.proofs.Shaped.{shaped}
 use Rattle.marks.specs.Marks.{isMarked}
-use Rattle.keys.specs.Keys.{joinKeys, total, keysAt}
-use Rattle.transitions.specs.Kept.{Keepable, bytesOf}
-use Rattle.transitions.specs.Assigned.{keptOf, Fillable}
+use Rattle.keys.specs.Inside.Keys.{joinKeys, total, keysAt}
+use Rattle.transitions.specs.Inside.Kept.{Keepable, bytesOf}
+use Rattle.transitions.specs.Inside.Assigned.{keptOf, Fillable}
 
 abbrev rowsOfP : List ℕ
 rowsOfP = 3 ∷ 2 ∷ 8 ∷ 0 ∷ 2 ∷ 0 ∷ 3 ∷ 0 ∷ 1 ∷ 0 ∷ 3 ∷ 0 ∷ 4 ∷ 2 ∷ 8 ∷ 0 ∷ 2 ∷ 1 ∷ 6 ∷ 0 ∷ 1 ∷ 1 ∷ 6 ∷ 0 ∷ 2 ∷ 1 ∷ 8 ∷ 1 ∷ 1 ∷ 0 ∷ 8 ∷ 1 ∷ []

@@ -11,7 +11,7 @@ use lib.Seq.{drop-cons, set-at, take-suc, take-take}
 use Rattle.paper.specs.Lists.{those}
 use Rattle.paper.proofs.Lists.{those-append}
 use Rattle.marks.specs.Marks.{isMarked}
-use Rattle.transitions.specs.Assigned.{keptOf, Fillable}
+use Rattle.transitions.specs.Inside.Assigned.{keptOf, Fillable}
 
 -- the front xs of length n, with one element more
 pub front-more : (xs out : List ℕ) (n a : ℕ) → length xs ≡ n → n < length out → set (xs ++ drop n out) n a ≡ (xs ++ a ∷ []) ++ drop (n + 1) out

@@ -14,7 +14,7 @@ use Rattle.paper.proofs.Folds.{AtLeaves, AtLeavesOf}
 use Rattle.rows.specs.Formula.{formulaAt}
 use Rattle.keys.specs.declared.Distinct.{Distinct}
 use Rattle.keys.proofs.LeafLabels.{leaves-hold}
-use Rattle.transitions.specs.Kept.{markedBy, Keepable, KeptAfter, MarkedKept}
+use Rattle.transitions.specs.Inside.Kept.{markedBy, Keepable, KeptAfter, MarkedKept}
 use Rattle.transitions.proofs.MarkedBytes.{AllLabels, no-label, _and_, marked-bytes, marked-front}
 
 module _ (P : Label → Type 0) where

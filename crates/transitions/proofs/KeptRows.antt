@@ -16,18 +16,18 @@ use Rattle.paper.specs.Structure.KeyCount.{keyCountOf, numberOf, numberOfEach}
 use Rattle.paper.specs.Structure.Kept.{keptAt, keptEach, keptAny, keptAll}
 use Rattle.rows.specs.Rows.{kindOf, argOf, endOf, formOf}
 use Rattle.rows.specs.Formula.{starAt, childrenAt, nodeAt, formulaAt}
-use Rattle.rows.specs.Walk.{expressions, firstUnder, expressionsAt, firstAt, Walkable}
+use Rattle.rows.specs.Inside.Walk.{expressions, firstUnder, expressionsAt, firstAt, Walkable}
 use Rattle.rows.proofs.Forms.{by-form}
 use Rattle.rows.proofs.Walks.{Along, along-under, along-on, along-next}
 use Rattle.keys.specs.declared.Distinct.{Distinct}
-use Rattle.marks.specs.Marks.{Marked}
-use Rattle.keys.specs.Keys.{total, keysAt}
+use Rattle.marks.specs.Inside.Chosen.{Marked}
+use Rattle.keys.specs.Inside.Keys.{total, keysAt}
 use Rattle.keys.proofs.KeyNumbers.{keys-number, keys-empty}
 use Rattle.keys.proofs.KeysUnder.{productOf, AllWithin, within-more, factors-within, numbersFrom, totalsFrom, keys-multiply, keys-add, keys-within, keys-pass}
 use Rattle.transitions.specs.declared.Shares.{Shares}
 use Rattle.transitions.specs.declared.Shares.the-variants.{Each, All, One, Done}
 use Rattle.transitions.specs.declared.Turn.{Turn}
-use Rattle.transitions.specs.Kept.{oneTurn, turnOf, sharesOf, toCome}
+use Rattle.transitions.specs.Inside.Kept.{oneTurn, turnOf, sharesOf, toCome}
 use Rattle.transitions.proofs.Sharing.{Fits, divided, fits-next}
 
 -- a row of a form, its children being read with one level less

@@ -11,7 +11,7 @@ use borrow.Author.Tests.{eqb-true, eqb-false}
 use Rattle.paper.specs.declared.Label.{Label}
 use Rattle.paper.specs.Formula.{ℓ, has}
 use Rattle.written.specs.Written.{labelsOn}
-use Rattle.transitions.specs.Kept.{markedBy, bytesOf}
+use Rattle.transitions.specs.Inside.Kept.{markedBy, bytesOf}
 
 pub marked-append : (xs ys : List Label) (out : List ℕ) → markedBy (xs ++ ys) out ≡ markedBy ys (markedBy xs out)
 unfolding markedBy

@@ -24,13 +24,13 @@ use Rattle.paper.proofs.KeyLists.{getD-mem}
 use Rattle.paper.proofs.Numbers.{kept-sub, numbers-say}
 use Rattle.paper.proofs.Keys.{keys-have-length}
 use Rattle.rows.specs.Formula.{formulaAt}
-use Rattle.rows.specs.Walk.{Walkable}
+use Rattle.rows.specs.Inside.Walk.{Walkable}
 use Rattle.keys.specs.declared.Distinct.{Distinct}
-use Rattle.marks.specs.Marks.{Marked}
-use Rattle.keys.specs.Keys.{total, keysAt}
+use Rattle.marks.specs.Inside.Chosen.{Marked}
+use Rattle.keys.specs.Inside.Keys.{total, keysAt}
 use Rattle.keys.proofs.KeyNumbers.{keys-number-within}
-use Rattle.transitions.specs.Kept.{Keepable}
-use Rattle.transitions.specs.Assigned.{keptOf}
+use Rattle.transitions.specs.Inside.Kept.{Keepable}
+use Rattle.transitions.specs.Inside.Assigned.{keptOf}
 use Rattle.transitions.specs.Statements.{kthKey, kthBytes, TransitionSays, EachTransitionSays}
 use Rattle.transitions.proofs.MarkedBytes.{bytes-same}
 use Rattle.transitions.proofs.Words.{those-same, kept-labels, as-many-ordered}

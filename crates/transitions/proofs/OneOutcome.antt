@@ -17,7 +17,8 @@ use Rattle.paper.proofs.Outcome.{by-equation}
 use Rattle.paper.proofs.Labels.{has-those, those-has}
 use Rattle.written.specs.Written.{labelsOn}
 use Rattle.rows.proofs.Meets.{lt-or-le}
-use Rattle.marks.specs.Marks.{isMarked, Marked}
+use Rattle.marks.specs.Marks.{isMarked}
+use Rattle.marks.specs.Inside.Chosen.{Marked}
 use Rattle.transitions.proofs.kept as kept
 use Rattle.transitions.proofs.assigned as assigned
 

@@ -11,7 +11,7 @@ use borrow.Author.Tests.{ltb-true, ltb-false, eqb-false, not-true}
 use Rattle.keys.proofs.KeysUnder.{productOf, sumOf, AllWithin, factors-some}
 use Rattle.transitions.specs.declared.Shares.{Shares}
 use Rattle.transitions.specs.declared.Shares.the-variants.{Each, All, One, Done}
-use Rattle.transitions.specs.Kept.{CanTake, oneTurn, turnOf}
+use Rattle.transitions.specs.Inside.Kept.{CanTake, oneTurn, turnOf}
 
 -- children with these numbers of keys, still to come, can take part so
 abbrev pub Fits : Shares → List ℕ → Type 0

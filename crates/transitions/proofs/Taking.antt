@@ -12,17 +12,17 @@ use Rattle.paper.specs.Formula.{ℓ}
 use Rattle.paper.specs.Structure.Kept.{keptAt}
 use Rattle.rows.specs.Rows.{kindOf, endOf, meets}
 use Rattle.rows.specs.Formula.{formulaAt}
-use Rattle.rows.specs.Walk.{expressionsAt, firstAt, Walkable}
+use Rattle.rows.specs.Inside.Walk.{expressionsAt, firstAt, Walkable}
 use Rattle.rows.proofs.Rules.{number-of}
 use Rattle.rows.proofs.Walks.{Along, along-under, along-on, along-next}
 use Rattle.keys.specs.declared.Distinct.{Distinct}
-use Rattle.marks.specs.Marks.{Marked}
-use Rattle.keys.specs.Keys.{total, keysAt}
+use Rattle.marks.specs.Inside.Chosen.{Marked}
+use Rattle.keys.specs.Inside.Keys.{total, keysAt}
 use Rattle.keys.proofs.KeysUnder.{totalsFrom, numbers-step}
 use Rattle.transitions.specs.declared.Shares.{Shares}
 use Rattle.transitions.specs.declared.Shares.the-variants.{Each, All, One, Done}
 use Rattle.transitions.specs.declared.Turn.{Turn}
-use Rattle.transitions.specs.Kept.{CanTake, turnOf, sharesOf, toCome, markedBy, Keepable, KeptAfter}
+use Rattle.transitions.specs.Inside.Kept.{CanTake, turnOf, sharesOf, toCome, markedBy, Keepable, KeptAfter}
 use Rattle.transitions.proofs.Sharing.{Fits, fits-take, fits-next, fits-on}
 use Rattle.transitions.proofs.KeptRows.{kept-none, kept-lone, eachUnder, keptIn, keptFrom, kept-step, kept-end, kept-to-come, fits-under, kept-under}
 use Rattle.transitions.proofs.MarkedBytes.{marked-append}

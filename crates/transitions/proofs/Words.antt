@@ -14,9 +14,10 @@ use Rattle.paper.specs.Order.{Once, OrderOf}
 use Rattle.paper.proofs.Bools.{or-right, not-so}
 use Rattle.paper.proofs.Lists.{those-lt}
 use Rattle.paper.proofs.Labels.{same-refl, same-eq, has-mem, has-head, has-those, those-has, rising-above}
-use Rattle.marks.specs.Marks.{isMarked, AllBelow}
-use Rattle.transitions.specs.Kept.{bytesOf}
-use Rattle.transitions.specs.Assigned.{keptOf}
+use Rattle.marks.specs.Marks.{isMarked}
+use Rattle.marks.specs.Inside.Chosen.{AllBelow}
+use Rattle.transitions.specs.Inside.Kept.{bytesOf}
+use Rattle.transitions.specs.Inside.Assigned.{keptOf}
 use Rattle.transitions.proofs.MarkedBytes.{bytes-at}
 
 pub those-same : {A : Type 0} {p q : A → Bool} (xs : List A) → ((a : A) → List·Memᴰ a xs → p a ≡ q a) → those p xs ≡ those q xs

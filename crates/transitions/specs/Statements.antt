@@ -12,9 +12,9 @@ use Rattle.paper.specs.Order.{OrderOf}
 use Rattle.paper.specs.Strategy.{Homogeneous, MinimalCovering}
 use Rattle.paper.specs.Transition.{isKept, class, keys}
 use Rattle.paper.specs.Structure.Kept.{keptAt}
-use Rattle.marks.specs.Marks.{AllBelow}
-use Rattle.transitions.specs.Kept.{bytesOf}
-use Rattle.transitions.specs.Assigned.{keptOf}
+use Rattle.marks.specs.Inside.Chosen.{AllBelow}
+use Rattle.transitions.specs.Inside.Kept.{bytesOf}
+use Rattle.transitions.specs.Inside.Assigned.{keptOf}
 
 -- the key whose number is k, and the bytes of its transition for n labels
 module _ (f : Formula) (A : List Label) (k : ℕ) where

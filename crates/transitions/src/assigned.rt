@@ -4,8 +4,9 @@ ghost use mathlib.Core.Bool.{true, cond};
 ghost use mathlib.Core.List.{_++_};
 ghost use Prim.Native.Nat.{_+_, _<_};
 ghost use lib.ListN.{length, set, take, drop};
-ghost use Rattle.marks.specs.Marks.{isMarked, AllBelow};
-ghost use Rattle.transitions.specs.Assigned.{keptOf, Fillable};
+ghost use Rattle.marks.specs.Marks.{isMarked};
+ghost use Rattle.marks.specs.Inside.Chosen.{AllBelow};
+ghost use Rattle.transitions.specs.Inside.Assigned.{keptOf, Fillable};
 
 // Whether a label is kept.
 fn is_kept(kept: &[u8], label: u16) -> bool

@@ -11,7 +11,8 @@ use Rattle.table.specs.declared.Layout.{Layout}
 use Rattle.table.specs.Table.{layout}
 use Rattle.verdict.specs.declared.Judged.{Judged}
 use Rattle.verdict.specs.declared.Judged.the-variants as answer
-use Rattle.verdict.specs.Verdict.{acceptedWith, refusedAt, asJudged, countedAs}
+use Rattle.verdict.specs.Verdict.{acceptedWith, refusedAt, asJudged}
+use Rattle.verdict.specs.Inside.Found.{countedAs}
 
 abbrev layoutIn : Judged → Layout
 layoutIn (answer.Accepted a) = a .layout

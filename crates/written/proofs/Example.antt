@@ -8,14 +8,16 @@ use Rattle.table.specs.declared.Layout.{Layout}
 use Rattle.table.specs.declared.Checked.the-variants.{Sound}
 use Rattle.entries.specs.First.{first}
 use Rattle.rows.specs.Rows.{formOf, meets, takenBefore, falseRule, starRule, candidateRule, joinRule}
-use Rattle.rows.specs.Rows.{boundRule, endsWithin, keepsRules, roundOf, depthOf, InRows, Nested}
+use Rattle.rows.specs.Rows.{boundRule, endsWithin, keepsRules, roundOf, depthOf}
+use Rattle.rows.specs.Inside.Looks.{InRows, Nested}
 use Rattle.entries.specs.Entries.{ascend}
 use Rattle.sections.specs.Sections.{openAt, variablesAt, readsAt, rowsAt, strategyAt, endAt}
 use Rattle.table.specs.Table.{sections, checked, layout, rowsIn}
 use Rattle.rows.specs.Formula.{starAt, childrenAt, nodeAt, formulaAt}
-use Rattle.rows.specs.Walk.{Walkable}
+use Rattle.rows.specs.Inside.Walk.{Walkable}
 use Rattle.written.specs.Written.{written, Within}
-use Rattle.written.specs.Tables.{tableIn, Understood}
+use Rattle.written.specs.Tables.{tableIn}
+use Rattle.written.specs.Inside.Understood.{Understood}
 use Rattle.written.specs.Example.{wordsOfP, tableOfP}
 use Rattle.written.proofs.Tables.{understood}
 

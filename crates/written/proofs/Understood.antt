@@ -16,7 +16,8 @@ use Rattle.rows.specs.Rows.{takenBefore, keepsRules, isDeep}
 use Rattle.entries.specs.Entries.{falls, beyond}
 use Rattle.rows.specs.Formula.{formulaAt}
 use Rattle.written.specs.Written.{takenReads, size, rowsFrom, written, depth, labelsOn, Within}
-use Rattle.written.specs.Tables.{formulaIn, tableIn, layoutOf, Understood}
+use Rattle.written.specs.Tables.{formulaIn, tableIn, layoutOf}
+use Rattle.written.specs.Inside.Understood.{Understood}
 use Rattle.table.specs.Table.{namesIn, readsIn, rowsIn, chosenIn}
 use Rattle.entries.proofs.First.{to-neither}
 use Rattle.written.proofs.Words.{map-back, Each, each-map, word-mem, of-rising, to-ascend, to-below}

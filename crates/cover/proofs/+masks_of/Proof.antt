@@ -8,7 +8,7 @@ use borrow.Fn.Kinds.{In}
 use borrow.Fn.PlainCycle.{Measures, is, falls, and}
 use Rattle.rows.proofs.Walks.{value-none, value-FALSE, value-test, value-candidate, row-there, row-few}
 use Rattle.rows.proofs.Walks.{row-known, Walking, walk-begins, walk-on, walk-turns, walk-ends}
-use Rattle.cover.specs.Masks.{unitMasks, masksFold}
+use Rattle.cover.specs.Inside.Masks.{unitMasks, masksFold}
 use Rattle.cover.proofs.masks_of.Reads as masks-of
 use Rattle.cover.proofs.masks_of.Kinds as kinds
 use Rattle.cover.proofs.+masks_of.Lts-masks_of as lts

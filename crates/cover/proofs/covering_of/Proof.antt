@@ -4,7 +4,7 @@ use borrow.Author.Needs.{needs}
 use Prim.Native.Nat.{_-_}
 use native.Mathlib.Omega.{arith}
 use Rattle.entries.proofs.First.{first-le}
-use Rattle.cover.specs.Masks.{bitAt}
+use Rattle.cover.specs.Inside.Masks.{bitAt}
 use Rattle.cover.proofs.Blocks.{Passed, passed-none, passing-stops, passing-goes-on, passing-ends-doubled, passing-ends-covered}
 use Rattle.cover.proofs.covering_of.Statement.{statement}
 use Rattle.cover.proofs.covering_of.Tie as tie

@@ -1,7 +1,7 @@
 -- `has_bit` gives whether a word has a bit: what its definition says, word for word.
 use borrow.Author.Needs.{needs}
 use mathlib.Core.Path.{refl}
-use Rattle.cover.specs.Masks.{bitAt}
+use Rattle.cover.specs.Inside.Masks.{bitAt}
 use Rattle.cover.proofs.has_bit.Statement.{statement}
 use Rattle.cover.proofs.has_bit.Tie as tie
 

@@ -1,5 +1,5 @@
 -- `join` gives the words of a join: its four returns are the definition's four cases.
-use Rattle.cover.specs.Masks.{joinMasks}
+use Rattle.cover.specs.Inside.Masks.{joinMasks}
 use Rattle.cover.proofs.join.Statement.{statement}
 use Rattle.cover.proofs.join.Tie as tie
 

@@ -2,7 +2,7 @@
 use borrow.Author.Needs.{needs}
 use borrow.Author.Tests.{eq-eqb, ne-eqb}
 use mathlib.Core.Path.{sym, _∙_}
-use Rattle.cover.specs.Masks.{maskOf}
+use Rattle.cover.specs.Inside.Masks.{maskOf}
 use Rattle.cover.proofs.Bits.{one-bit}
 use Rattle.cover.proofs.leaf_of.Statement.{statement}
 use Rattle.cover.proofs.leaf_of.Tie as tie

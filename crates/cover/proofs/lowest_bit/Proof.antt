@@ -5,7 +5,7 @@ use native.Mathlib.Omega.{arith}
 use mathlib.Core.Path.{_≡_, sym, _∙_}
 use mathlib.Core.Bool.{false}
 use Rattle.entries.proofs.First.{first-found, first-none}
-use Rattle.cover.specs.Masks.{bitAt}
+use Rattle.cover.specs.Inside.Masks.{bitAt}
 use Rattle.cover.proofs.Bits.{zero-bit}
 use Rattle.cover.proofs.lowest_bit.Statement.{statement}
 use Rattle.cover.proofs.lowest_bit.Tie as tie

@@ -1,5 +1,5 @@
 -- `unit_of` gives what a join starts from: its two returns are the definition's two cases.
-use Rattle.cover.specs.Masks.{unitMasks}
+use Rattle.cover.specs.Inside.Masks.{unitMasks}
 use Rattle.cover.proofs.unit_of.Statement.{statement}
 use Rattle.cover.proofs.unit_of.Tie as tie
 

@@ -1,7 +1,7 @@
 -- A root that is not new is walked already. The loop's invariant: the path and `best` are as they should be, and no mark went back.
 -- The measure is how far the walk has to go.
-use Rattle.cycles.specs.Path.{Walked, Best, Grown, weight}
-use Rattle.fingers.specs.Spots.{graphOf}
+use Rattle.cycles.specs.Inside.Path.{Walked, Best, Grown, weight}
+use Rattle.fingers.specs.Inside.Spots.{graphOf}
 use Rattle.cycles.proofs.Steps.{explore-path, explore-best, explore-end, explore-not}
 use borrow.Author.Needs.{needs}
 use Rattle.cycles.proofs.explore.Statement.{statement}

@@ -2,7 +2,7 @@
 use Prim.Native.Nat.{_≤_, _-_}
 use native.Mathlib.Omega.{arith}
 use mathlib.Core.Path.{_≡_}
-use Rattle.cycles.specs.Path.{Finished}
+use Rattle.cycles.specs.Inside.Path.{Finished}
 use Rattle.cycles.proofs.Loops.{finish-none, finish-more}
 use borrow.Author.Needs.{needs}
 use Rattle.cycles.proofs.finish.Statement.{statement}

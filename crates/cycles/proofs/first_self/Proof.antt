@@ -5,7 +5,7 @@ use mathlib.Core.Path.{_≡_, sym, _∙_}
 use mathlib.Core.Bool.{false}
 use lib.ListN.{length}
 use borrow.Author.Count.{below-more}
-use Rattle.net.specs.Prior.{prior}
+use Rattle.net.specs.Inside.Prior.{prior}
 use borrow.Author.Needs.{needs}
 use Rattle.cycles.proofs.first_self.Statement.{statement}
 use Rattle.cycles.proofs.first_self.Tie as tie

@@ -4,8 +4,8 @@ use mathlib.Core.Path.{_≡_, sym, ap, _∙_}
 use lib.ListN.{length}
 use Rattle.paper.specs.declared.Label.{Label}
 use Rattle.rows.specs.Rows.{fromOf}
-use Rattle.net.specs.Prior.{prior}
-use Rattle.fingers.specs.Spots.{IsSpot}
+use Rattle.net.specs.Inside.Prior.{prior}
+use Rattle.fingers.specs.Inside.Spots.{IsSpot}
 use Rattle.fingers.proofs.GoesOn.{stop-in}
 use Rattle.cycles.proofs.Itself.{below, below-none, below-read, outer-place, outer-lower, below-outer, own-place, below-own}
 use borrow.Author.Needs.{needs}

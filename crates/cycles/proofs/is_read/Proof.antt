@@ -1,7 +1,7 @@
 -- The loop's invariant: whether v is read from r on is whether it is read at all.
 use Prim.Native.Nat.{_-_}
 use mathlib.Core.Path.{_≡_, refl, sym, _∙_}
-use Rattle.fingers.specs.Spots.{readsAny}
+use Rattle.fingers.specs.Inside.Spots.{readsAny}
 use Rattle.fingers.proofs.GoesOn.{reads-hit, reads-miss, reads-none}
 use borrow.Author.Needs.{needs}
 use Rattle.cycles.proofs.is_read.Statement.{statement}

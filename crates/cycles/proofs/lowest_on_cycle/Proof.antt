@@ -7,10 +7,10 @@ use lib.ListN.{length}
 use borrow.Author.Count.{below-more}
 use Rattle.paper.proofs.Bools.{not-so}
 use Rattle.entries.proofs.First.{first-same}
-use Rattle.cycles.specs.Cyclic.{isOnCycle, lowestOnCycle}
-use Rattle.fingers.specs.Graph.{free}
-use Rattle.cycles.specs.Path.{isOnRing, Walked, Best}
-use Rattle.fingers.specs.Spots.{graphOf}
+use Rattle.cycles.specs.Inside.Cyclic.{isOnCycle, lowestOnCycle}
+use Rattle.fingers.specs.Inside.Graph.{free}
+use Rattle.cycles.specs.Inside.Path.{isOnRing, Walked, Best}
+use Rattle.fingers.specs.Inside.Spots.{graphOf}
 use Rattle.fingers.proofs.Tests.{never}
 use Rattle.fingers.proofs.Seeking.{started}
 use Rattle.cycles.proofs.Steps.{empty-first, best-start, best-first}

@@ -1,6 +1,6 @@
 -- A mark of 1 is done; any other is compared.
 use borrow.Author.Tests.{eq-eqb, ne-eqb}
-use Rattle.fingers.specs.Graph.{outside}
+use Rattle.fingers.specs.Inside.Graph.{outside}
 use borrow.Author.Needs.{needs}
 use Rattle.fingers.proofs.is_outside.Statement.{statement}
 use Rattle.fingers.proofs.is_outside.Tie as tie

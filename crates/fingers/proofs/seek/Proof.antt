@@ -3,8 +3,8 @@
 use Prim.Native.Nat.{_/_, _%_}
 use native.Mathlib.Omega.{arith}
 use mathlib.Core.Path.{sym, _∙_}
-use Rattle.fingers.specs.Graph.{outside}
-use Rattle.fingers.specs.Spots.{ahead, Apart, Sought, fingerOf}
+use Rattle.fingers.specs.Inside.Graph.{outside}
+use Rattle.fingers.specs.Inside.Spots.{ahead, Apart, Sought, fingerOf}
 use Rattle.fingers.proofs.Seeking.{sought-none, sought-more, sought-hit, sought-out}
 use borrow.Author.Needs.{needs}
 use Rattle.fingers.proofs.seek.Statement.{statement}

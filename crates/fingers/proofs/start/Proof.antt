@@ -3,7 +3,7 @@ use Prim.Native.Nat.{_-_, _≤_}
 use native.Mathlib.Omega.{arith}
 use mathlib.Core.Path.{refl, _∙_}
 use lib.ListN.{length}
-use Rattle.fingers.specs.Spots.{startOf, AtStart}
+use Rattle.fingers.specs.Inside.Spots.{startOf, AtStart}
 use Rattle.fingers.proofs.Seeking.{start-more}
 use borrow.Author.Needs.{needs}
 use Rattle.fingers.proofs.start.Statement.{statement}

@@ -13,7 +13,7 @@ use Rattle.rows.proofs.Walks.{value-none, value-FALSE, value-test, value-candid
 use Rattle.rows.proofs.Walks.{row-known, Walking, walk-begins, walk-on, walk-turns, walk-ends}
 use Rattle.keys.specs.declared.Distinct.{Distinct}
 use Rattle.marks.specs.Marks.{isMarked}
-use Rattle.keys.specs.Keys.{limit, leafKeys, joinKeys, keysFold, keysAt}
+use Rattle.keys.specs.Inside.Keys.{limit, leafKeys, joinKeys, keysFold, keysAt}
 use Rattle.keys.proofs.keys_of.Reads as keys-of
 use Rattle.keys.proofs.keys_of.Kinds as kinds
 use Rattle.keys.proofs.+keys_of.Lts-keys_of as lts

@@ -1,6 +1,6 @@
 -- `join` gives the keys of a conjunction, or of any other join: its two returns are the definition's two cases.
 use borrow.Author.Needs.{needs}
-use Rattle.keys.specs.Keys.{joinKeys}
+use Rattle.keys.specs.Inside.Keys.{joinKeys}
 use Rattle.keys.proofs.join.Statement.{statement}
 use Rattle.keys.proofs.join.Tie as tie
 

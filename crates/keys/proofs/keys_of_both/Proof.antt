@@ -6,7 +6,7 @@ use native.Mathlib.Nat.{mul-le-mul, add-zero}
 use mathlib.Core.Path.{_≡_}
 use mathlib.Core.Bool.{Bool, true, false, cond}
 use Rattle.keys.specs.declared.Distinct.{Distinct}
-use Rattle.keys.specs.Keys.{limit, total, joinKeys}
+use Rattle.keys.specs.Inside.Keys.{limit, total, joinKeys}
 use Rattle.keys.proofs.keys_of_both.Statement.{statement}
 use Rattle.keys.proofs.keys_of_both.Tie as tie
 

@@ -6,7 +6,7 @@ use native.Mathlib.Omega.{arith}
 use mathlib.Core.Path.{_≡_, refl, _∙_}
 use lib.ListN.{length, length-set}
 use Rattle.listing.specs.Text.{decimal}
-use Rattle.listing.specs.Placed.{placed}
+use Rattle.listing.specs.Inside.Placed.{placed}
 use Rattle.listing.proofs.Decimals.{some-digit, length-more, ten-digits, digit-stored, first-digit-stored}
 use Rattle.listing.proofs.put_decimal.Statement.{statement}
 use Rattle.listing.proofs.put_decimal.Tie as tie

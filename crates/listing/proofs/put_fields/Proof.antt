@@ -6,7 +6,7 @@ use mathlib.Core.Path.{_≡_}
 use lib.ListN.{length, take}
 use lib.Seq.{take-all}
 use Rattle.listing.specs.Text.{fields}
-use Rattle.listing.specs.Placed.{Put}
+use Rattle.listing.specs.Inside.Placed.{Put}
 use Rattle.listing.proofs.Placing.{put-nothing, put-then}
 use Rattle.listing.proofs.Texts.{fields-next}
 use Rattle.listing.proofs.put_fields.Statement.{statement}

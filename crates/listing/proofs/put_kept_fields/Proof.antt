@@ -8,7 +8,7 @@ use lib.ListN.{length, take}
 use lib.Seq.{take-all}
 use Rattle.marks.specs.Marks.{positionsFrom, positions}
 use Rattle.listing.specs.Text.{fields}
-use Rattle.listing.specs.Placed.{Put}
+use Rattle.listing.specs.Inside.Placed.{Put}
 use Rattle.listing.proofs.Placing.{put-nothing, put-then}
 use Rattle.listing.proofs.Texts.{positions-next}
 use Rattle.listing.proofs.put_kept_fields.Statement.{statement}

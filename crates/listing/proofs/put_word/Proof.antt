@@ -5,7 +5,7 @@ use mathlib.Core.Path.{_≡_, sym}
 use lib.ListN.{length, take}
 use lib.Seq.{take-all}
 use native.Mathlib.Omega.{arith}
-use Rattle.listing.specs.Placed.{placed}
+use Rattle.listing.specs.Inside.Placed.{placed}
 use Rattle.listing.proofs.Placing.{placed-nothing, placed-more}
 use Rattle.listing.proofs.put_word.Statement.{statement}
 use Rattle.listing.proofs.put_word.Tie as tie

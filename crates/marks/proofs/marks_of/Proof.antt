@@ -5,7 +5,7 @@ use mathlib.Core.List.{map}
 use lib.ListN.{length, take, getD}
 use lib.Seq.{take-all}
 use Rattle.paper.specs.Formula.{ℓ}
-use Rattle.marks.specs.Marks.{MarkedExactly}
+use Rattle.marks.specs.Inside.Chosen.{MarkedExactly}
 use Rattle.marks.proofs.Marking.{marked-none, marked-more, bits-none, bits-more}
 use Rattle.marks.proofs.marks_of.Statement.{statement}
 use Rattle.marks.proofs.marks_of.Tie as tie

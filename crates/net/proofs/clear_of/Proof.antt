@@ -7,7 +7,7 @@ use mathlib.Core.Bool.{true}
 use borrow.Author.Needs.{needs}
 use borrow.Author.Tests.{not-true, not-false}
 use Rattle.rows.proofs.Rules.{number-of}
-use Rattle.net.specs.Prior.{isUnder}
+use Rattle.rows.specs.Inside.Tree.{isUnder}
 use Rattle.net.proofs.Clear.{Pair, Upward, top-below, upward-first, upward-next, cleared-same, cleared-joined, cleared-before, cleared-after}
 use Rattle.net.proofs.clear_of.Statement.{statement}
 use Rattle.net.proofs.clear_of.Tie as tie

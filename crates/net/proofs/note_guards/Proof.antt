@@ -7,7 +7,7 @@ use lib.ListN.{getD}
 use lib.Seq.{getD-set-same}
 use borrow.Author.Needs.{needs}
 use Rattle.rows.proofs.Rules.{number-of}
-use Rattle.net.specs.Net.{Parents, Guards, Only, GuardWord, guardsFrom}
+use Rattle.net.specs.Inside.Net.{Parents, Guards, Only, GuardWord, guardsFrom}
 use Rattle.net.proofs.Notes.{parents-kept, guards-first, guards-more, guards-fewer, unguarded-kept, only-none, only-more, only-then}
 use Rattle.net.proofs.note_guards.Statement.{statement}
 use Rattle.net.proofs.note_guards.Tie as tie

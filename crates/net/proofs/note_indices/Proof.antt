@@ -5,7 +5,7 @@ use mathlib.Core.Path.{_≡_, _∙_}
 use mathlib.Core.Logic.{inl, inr}
 use lib.ListN.{length}
 use borrow.Author.Needs.{needs}
-use Rattle.net.specs.Net.{Only, IndexWord}
+use Rattle.net.specs.Inside.Net.{Only, IndexWord}
 use Rattle.net.proofs.Notes.{only-none, only-more, only-then}
 use Rattle.net.proofs.Chains.{variableAt, Linked, linked-none, linked-more, linked-all, only-before}
 use Rattle.net.proofs.note_indices.Statement.{statement}

@@ -4,7 +4,7 @@ use native.Mathlib.Omega.{arith}
 use mathlib.Core.Path.{_∙_}
 use mathlib.Core.Logic.{inl, inr}
 use borrow.Author.Needs.{needs}
-use Rattle.net.specs.Net.{guardsFrom, IndexWord}
+use Rattle.net.specs.Inside.Net.{guardsFrom, IndexWord}
 use Rattle.net.proofs.Notes.{only-then, only-wider}
 use Rattle.net.proofs.note_net.Statement.{statement}
 use Rattle.net.proofs.note_net.Tie as tie

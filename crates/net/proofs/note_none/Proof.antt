@@ -7,7 +7,7 @@ use lib.ListN.{length, getD, take, set, length-set}
 use lib.Seq.{getD-set-same, getD-set-other, take-set-le}
 use borrow.Author.Needs.{needs}
 use borrow.Author.Count.{below-more}
-use Rattle.net.specs.Net.{firstsFrom, netLength}
+use Rattle.net.specs.Inside.Net.{firstsFrom, netLength}
 use Rattle.net.proofs.note_none.Statement.{statement}
 use Rattle.net.proofs.note_none.Tie as tie
 

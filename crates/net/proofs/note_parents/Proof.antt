@@ -3,7 +3,7 @@ use Prim.Native.Nat.{_-_, _<_}
 use native.Mathlib.Omega.{arith}
 use borrow.Author.Needs.{needs}
 use Rattle.rows.proofs.Rules.{number-of}
-use Rattle.net.specs.Net.{Parents, Only, ParentWord}
+use Rattle.net.specs.Inside.Net.{Parents, Only, ParentWord}
 use Rattle.net.proofs.Notes.{parents-none, parents-more, parents-fewer, only-none, only-more}
 use Rattle.net.proofs.note_parents.Statement.{statement}
 use Rattle.net.proofs.note_parents.Tie as tie

@@ -1,6 +1,6 @@
 -- A number below the size is looked up; no other is one.
 use borrow.Author.Tests.{lt-ltb, le-ltb}
-use Rattle.fingers.specs.Graph.{free}
+use Rattle.fingers.specs.Inside.Graph.{free}
 use borrow.Author.Needs.{needs}
 use Rattle.ordering.proofs.is_waiting.Statement.{statement}
 use Rattle.ordering.proofs.is_waiting.Tie as tie

@@ -2,8 +2,8 @@
 use Prim.Native.Nat.{_≤_, _-_}
 use native.Mathlib.Omega.{arith}
 use lib.ListN.{length}
-use Rattle.ordering.specs.Placing.{State}
-use Rattle.fingers.specs.Spots.{graphOf}
+use Rattle.ordering.specs.Inside.Placing.{State}
+use Rattle.fingers.specs.Inside.Spots.{graphOf}
 use borrow.Author.Needs.{needs}
 use Rattle.ordering.proofs.lowest_ready.Statement.{statement}
 use Rattle.ordering.proofs.lowest_ready.Tie as tie

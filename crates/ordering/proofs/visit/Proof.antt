@@ -2,7 +2,7 @@
 use native.Mathlib.Omega.{arith}
 use mathlib.Core.Path.{refl, sym, _∙_}
 use borrow.Author.Tests.{eq-eqb, ne-eqb}
-use Rattle.fingers.specs.Graph.{free}
+use Rattle.fingers.specs.Inside.Graph.{free}
 use Rattle.ordering.proofs.Moves.{visit-placed, visit-waiting, visit-ready, visit-blocked}
 use borrow.Author.Needs.{needs}
 use Rattle.ordering.proofs.visit.Statement.{statement}

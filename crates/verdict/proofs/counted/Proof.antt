@@ -1,7 +1,7 @@
 -- The count is past 65,535, or it is the number of an acceptance.
 use mathlib.Core.Path.{ap, _∙_}
 use borrow.Author.Needs.{needs}
-use Rattle.keys.specs.Keys.{total}
+use Rattle.keys.specs.Inside.Keys.{total}
 use Rattle.verdict.proofs.Answers.{counted-past, counted-fits}
 use Rattle.verdict.proofs.counted.Statement.{statement}
 use Rattle.verdict.proofs.counted.Tie as tie

@@ -9,7 +9,7 @@ use borrow.Author.Tests.{eq-eqb, ne-eqb}
 use borrow.Author.Count.{below-more}
 use borrow.Author.Needs.{needs}
 use Rattle.entries.proofs.First.{first-found, first-none}
-use Rattle.verdict.specs.Verdict.{isStranger}
+use Rattle.verdict.specs.Inside.Found.{isStranger}
 use Rattle.verdict.proofs.first_stranger.Statement.{statement}
 use Rattle.verdict.proofs.first_stranger.Tie as tie
 

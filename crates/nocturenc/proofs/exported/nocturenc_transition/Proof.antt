@@ -1,7 +1,7 @@
 -- The answer is packed, and the lent slice is as the request leaves it.
 use mathlib.Core.Path.{sym, ap, subst, _∙_}
 use borrow.Author.Needs.{needs}
-use Rattle.answers.specs.Requests.{FitFilled}
+use Rattle.answers.specs.Inside.Judged.{FitFilled}
 use Rattle.answers.proofs.Amounts.{transition-fits}
 use Rattle.nocturenc.specs.Packed.{packedFilled, ReadFilling}
 use Rattle.nocturenc.proofs.exported.nocturenc_transition.Statement.{statement}

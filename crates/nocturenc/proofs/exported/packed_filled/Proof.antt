@@ -3,7 +3,7 @@ use Prim.Native.Nat.{ℕ}
 use mathlib.Core.Path.{_≡_, sym, subst}
 use borrow.Author.Needs.{needs}
 use Rattle.filling.specs.declared.Filled.{Filled}
-use Rattle.answers.specs.Requests.{FitFilled}
+use Rattle.answers.specs.Inside.Judged.{FitFilled}
 use Rattle.nocturenc.specs.Packed.{packedFilled, ReadFilling}
 use Rattle.nocturenc.proofs.Reading.{read-filled, read-unfilled}
 use Rattle.nocturenc.proofs.exported.packed_filled.Statement.{statement}

@@ -4,7 +4,7 @@ use Prim.Native.Nat.{ℕ, _<_}
 use native.Mathlib.Omega.{arith}
 use mathlib.Core.Path.{_≡_, refl, _∙_}
 use Rattle.rows.specs.Rows.{formOf}
-use Rattle.rows.specs.Walk.{expressions}
+use Rattle.rows.specs.Inside.Walk.{expressions}
 use Rattle.rows.proofs.Forms.{by-form}
 use Rattle.rows.proofs.walk.expressions_of.Statement.{statement}
 use Rattle.rows.proofs.walk.expressions_of.Tie as tie

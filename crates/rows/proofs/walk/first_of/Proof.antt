@@ -5,7 +5,7 @@ use native.Mathlib.Omega.{arith}
 use mathlib.Core.Path.{_≡_, refl}
 use Rattle.paper.specs.Formula.{ℓ}
 use Rattle.rows.specs.Rows.{formOf}
-use Rattle.rows.specs.Walk.{firstUnder}
+use Rattle.rows.specs.Inside.Walk.{firstUnder}
 use Rattle.rows.proofs.Forms.{by-form}
 use Rattle.rows.proofs.walk.first_of.Statement.{statement}
 use Rattle.rows.proofs.walk.first_of.Tie as tie

@@ -4,7 +4,7 @@ use native.Mathlib.Omega.{arith}
 use mathlib.Core.Path.{_≡_, refl, ap, _∙_}
 use lib.ListN.{length, take}
 use lib.Seq.{take-all}
-use Rattle.transitions.specs.Assigned.{keptOf}
+use Rattle.transitions.specs.Inside.Assigned.{keptOf}
 use Rattle.transitions.proofs.Fronts.{count-step, at-most-one}
 use Rattle.transitions.proofs.assigned.count_kept.Statement.{statement}
 use Rattle.transitions.proofs.assigned.count_kept.Tie as tie

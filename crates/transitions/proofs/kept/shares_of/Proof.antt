@@ -1,6 +1,6 @@
 -- `shares_of` goes by the form of the join: its three returns are the definition's cases.
 use borrow.Author.Needs.{needs}
-use Rattle.transitions.specs.Kept.{sharesOf}
+use Rattle.transitions.specs.Inside.Kept.{sharesOf}
 use Rattle.transitions.proofs.kept.shares_of.Statement.{statement}
 use Rattle.transitions.proofs.kept.shares_of.Tie as tie
 

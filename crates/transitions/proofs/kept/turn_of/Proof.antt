@@ -8,7 +8,7 @@ use mathlib.Core.Path.{_≡_, subst}
 use borrow.Author.Tests.{lt-ltb, le-ltb}
 use Rattle.transitions.specs.declared.Shares.{Shares}
 use Rattle.transitions.specs.declared.Shares.the-variants.{Each}
-use Rattle.transitions.specs.Kept.{CanTake, turnOf}
+use Rattle.transitions.specs.Inside.Kept.{CanTake, turnOf}
 use Rattle.transitions.proofs.kept.turn_of.Statement.{statement}
 use Rattle.transitions.proofs.kept.turn_of.Tie as tie
 

@@ -1,40 +1,15 @@
 -- "Before" in terms of rows, as code asks for it: what the stars around a candidate read, and whether two rows share a
 -- branch (document 01, "Before"). The chosen labels are those of the strategy section, ascending; i and j count them.
-use Prim.Native.Nat.{ℕ, zero, suc, _+_}
-use mathlib.Core.Bool.{Bool, cond, _&&_, _||_}
-use mathlib.Core.List.{List, [], _∷_, _++_}
-use lib.Dec.{eqb, ltb, leb}
+use Prim.Native.Nat.{ℕ, _+_}
+use mathlib.Core.Bool.{Bool, _&&_, _||_}
+use mathlib.Core.List.{List}
+use lib.Dec.{eqb}
 use lib.ListN.{getD, take, drop}
-use Rattle.paper.specs.Lists.{anyOf}
-use Rattle.rows.specs.Rows.{kindOf, argOf, endOf, fromOf}
-
--- the numbers 0 to n - 1
-abbrev pub upTo : ℕ → List ℕ
-upTo zero = []
-upTo (suc n) = upTo n ++ (n ∷ [])
-
--- the last number below n that passes a test, or `none`
-abbrev pub lastOf : (ℕ → Bool) → ℕ → ℕ → ℕ
-lastOf p none zero = none
-lastOf p none (suc n) = cond (p n) n (lastOf p none n)
+use Rattle.paper.specs.Lists.{anyOf, upTo, lastOf}
+use Rattle.rows.specs.Inside.Tree.{isUnder, isGuarded}
+use Rattle.rows.specs.Rows.{kindOf, argOf, fromOf}
 
 module _ (rows : List ℕ) where
-  -- row i lies in the subtree of row a
-  abbrev pub isUnder : ℕ → ℕ → Bool
-  isUnder a i = leb a i && ltb i (endOf rows a)
-
-  -- row a is an exists or an IF, and row i lies under it, past its star
-  abbrev pub isGuarded : ℕ → ℕ → Bool
-  isGuarded a i = ltb 4 (kindOf rows a) && (ltb (a + 1) i && ltb i (endOf rows a))
-
-  -- the row right over row i, which is not row 0
-  unfoldable pub parentOf : ℕ → ℕ
-  parentOf i = lastOf (λ a. isUnder a i) 0 i
-
-  -- the star of the innermost guard around row i, or 0
-  unfoldable pub guardOf : ℕ → ℕ
-  guardOf i = cond (anyOf (λ a. isGuarded a i) (upTo i)) (lastOf (λ a. isGuarded a i) 0 i + 1) 0
-
   -- the last row that is over both i and j, which are two
   unfoldable pub overBoth : ℕ → ℕ → ℕ
   overBoth i j = lastOf (λ a. isUnder a i && isUnder a j) 0 i

@@ -6,7 +6,8 @@ use mathlib.Core.List.{List}
 use lib.ListN.{length}
 use Rattle.paper.specs.Order.{onCycle}
 use Rattle.entries.specs.First.{first}
-use Rattle.net.specs.Prior.{upTo, prior}
+use Rattle.paper.specs.Lists.{upTo}
+use Rattle.net.specs.Inside.Prior.{prior}
 
 -- number k is on a cycle
 unfoldable pub isOnCycle : List ℕ → List ℕ → List ℕ → ℕ → Bool

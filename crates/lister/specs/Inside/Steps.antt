@@ -10,15 +10,15 @@ use Rattle.paper.specs.Limits.{mostBytes, mostDepth, mostRows, mostTransitions,
 use Rattle.table.specs.declared.Layout.{Layout}
 use Rattle.table.specs.Table.{rowsIn}
 use Rattle.keys.specs.declared.Distinct.{Distinct}
-use Rattle.marks.specs.Marks.{Marked}
-use Rattle.keys.specs.Keys.{keysAt}
+use Rattle.marks.specs.Inside.Chosen.{Marked}
+use Rattle.keys.specs.Inside.Keys.{keysAt}
 use Rattle.verdict.specs.declared.Accepted.{Accepted}
 use Rattle.verdict.specs.declared.Judged.{Judged}
 use Rattle.verdict.specs.declared.Judged.the-variants as judged
 use Rattle.strategy.specs.Judge.{proposalIn}
 use Rattle.input.specs.Bytes.{wordsOf, judgedBytes}
-use Rattle.answers.specs.Requests.{AcceptedAs, Ordered}
-use Rattle.listing.specs.Placed.{Put}
+use Rattle.answers.specs.Inside.Judged.{AcceptedAs, Ordered}
+use Rattle.listing.specs.Inside.Placed.{Put}
 use Rattle.lister.specs.declared.Ran.{Ran}
 use Rattle.lister.specs.declared.basis.Basis.{Basis}
 use Rattle.lister.specs.declared.lines.Lines.{Lines}

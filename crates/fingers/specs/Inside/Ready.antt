@@ -5,7 +5,7 @@ use mathlib.Core.Path.{_≡_}
 use lib.ListN.{length, getD}
 use Rattle.paper.specs.Limits.{mostReads, mostVariables}
 use Rattle.rows.specs.Rows.{kindOf, argOf, fromOf}
-use Rattle.net.specs.Net.{Chosen, Net}
+use Rattle.net.specs.Inside.Net.{Chosen, Net}
 
 -- Chosen labels of nested rows with their net, and stars whose reads are there and are variables.
 pub record Ready (rows reads chosen net : List ℕ) (#N : ℕ) : Type 0 where

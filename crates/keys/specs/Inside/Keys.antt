@@ -3,7 +3,7 @@ use Prim.Native.Nat.{ℕ, _+_, _*_, min}
 use mathlib.Core.Bool.{Bool, true, false, cond, _&&_, _||_}
 use mathlib.Core.List.{List}
 use Rattle.paper.specs.Structure.Fold.{Fold}
-use Rattle.rows.specs.Walk.{valueAt}
+use Rattle.rows.specs.Inside.Walk.{valueAt}
 use Rattle.keys.specs.declared.Distinct.{Distinct}
 use Rattle.marks.specs.Marks.{isMarked}
 

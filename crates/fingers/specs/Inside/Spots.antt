@@ -10,10 +10,11 @@ use lib.ListN.{length, getD, take, drop}
 use Rattle.paper.specs.Limits.{mostReads, slots}
 use Rattle.paper.specs.Lists.{anyOf}
 use Rattle.rows.specs.Rows.{kindOf, argOf, fromOf}
-use Rattle.net.specs.Prior.{guardOf, around, isFrozen, shareBranchIn, variableOf, prior}
-use Rattle.net.specs.Net.{firstWith}
+use Rattle.rows.specs.Inside.Tree.{guardOf}
+use Rattle.net.specs.Inside.Prior.{around, isFrozen, shareBranchIn, variableOf, prior}
+use Rattle.net.specs.Inside.Net.{firstWith}
 use Rattle.fingers.specs.declared.Found.{Found}
-use Rattle.fingers.specs.Graph.{Graph, Next}
+use Rattle.fingers.specs.Inside.Graph.{Graph, Next}
 
 -- one past the last read of the star in row s
 abbrev pub stopOf : List ℕ → ℕ → ℕ

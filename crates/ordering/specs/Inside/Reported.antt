@@ -6,7 +6,8 @@ use lib.Dec.{eqb}
 use lib.ListN.{length, getD}
 use Rattle.paper.specs.Order.{greedyBy}
 use Rattle.entries.specs.Front.{inFront}
-use Rattle.net.specs.Prior.{upTo, prior}
+use Rattle.paper.specs.Lists.{upTo}
+use Rattle.net.specs.Inside.Prior.{prior}
 
 -- the numbers in the reported order: all of them exactly if there is an order
 unfoldable pub ordered : List ℕ → List ℕ → List ℕ → List ℕ

@@ -7,10 +7,10 @@ use mathlib.Core.Path.{_≡_, refl, sym, ap, _∙_}
 use mathlib.Core.Bool.{Bool, true, false, cond, _||_, false≢true}
 use mathlib.Core.Logic.{_⊎_}
 use mathlib.Core.List.{[], _∷_}
 use Rattle.paper.specs.Lists.{anyOf}
 use Rattle.paper.proofs.Bools.{pick}
 use Rattle.paper.proofs.Lists.{any-append}
-use Rattle.net.specs.Prior.{upTo, lastOf}
+use Rattle.paper.specs.Lists.{upTo, lastOf}
 
 -- k passes, and none above it below n does
 pub record Last (p : ℕ → Bool) (n k : ℕ) : Type 0 where

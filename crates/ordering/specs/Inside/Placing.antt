@@ -7,9 +7,9 @@ use lib.Dec.{eqb}
 use lib.ListN.{length, getD, take, drop}
 use Rattle.paper.specs.Limits.{slots}
 use Rattle.paper.specs.Order.{greedyBy}
-use Rattle.net.specs.Prior.{upTo}
-use Rattle.fingers.specs.Graph.{Graph, free, leftOf}
-use Rattle.ordering.specs.Reported.{labelled}
+use Rattle.paper.specs.Lists.{upTo}
+use Rattle.fingers.specs.Inside.Graph.{Graph, free, leftOf}
+use Rattle.ordering.specs.Inside.Reported.{labelled}
 
 -- j waits for f, which is not placed, and low says so
 pub record Blocked (g : Graph) (placed low : List ℕ) (j f : ℕ) : Type 0 where

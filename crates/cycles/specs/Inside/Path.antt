@@ -6,8 +6,8 @@ use mathlib.Core.List.{List}
 use lib.ListN.{length, getD}
 use Rattle.paper.specs.Limits.{slots}
 use Rattle.paper.specs.Order.{onCycle}
-use Rattle.net.specs.Prior.{upTo}
-use Rattle.fingers.specs.Graph.{Graph, free, leftOf}
+use Rattle.paper.specs.Lists.{upTo}
+use Rattle.fingers.specs.Inside.Graph.{Graph, free, leftOf}
 
 -- i lies on a cycle
 unfoldable pub isOnRing : Graph → ℕ → Bool

@@ -7,10 +7,10 @@ use mathlib.Core.Path.{_≡_, refl, ap, _∙_}
 use mathlib.Core.Bool.{Bool, true, false, cond, _||_, or-false}
 use mathlib.Core.List.{List, [], _∷_, _++_, map, List·Memᴰ, List·Memᴰ·not-nil, List·Memᴰ·append-cases, List·Memᴰ·eq-of-singleton}
 use lib.ListN.{length, length-append}
 use Rattle.paper.specs.Lists.{anyOf, those}
 use Rattle.paper.proofs.Bools.{pick}
 use Rattle.paper.proofs.Lists.{any-append}
-use Rattle.net.specs.Prior.{upTo, lastOf}
+use Rattle.paper.specs.Lists.{upTo, lastOf}
 
 pub length-upTo : (n : ℕ) → length (upTo n) ≡ n
 length-upTo zero = refl

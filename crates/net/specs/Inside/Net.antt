@@ -11,8 +11,10 @@ use lib.Dec.{eqb, ltb}
 use lib.ListN.{length, getD}
 use Rattle.paper.specs.Limits.{mostCandidates, mostVariables}
 use Rattle.entries.specs.First.{first}
-use Rattle.rows.specs.Rows.{kindOf, argOf, endOf, Nested}
-use Rattle.net.specs.Prior.{isUnder, parentOf, guardOf, overBoth, shareBranchIn}
+use Rattle.rows.specs.Rows.{kindOf, argOf, endOf}
+use Rattle.rows.specs.Inside.Looks.{Nested}
+use Rattle.rows.specs.Inside.Tree.{isUnder, parentOf, guardOf}
+use Rattle.net.specs.Inside.Prior.{overBoth, shareBranchIn}
 
 -- where each part begins, and the whole length
 abbrev pub guardsFrom : ℕ

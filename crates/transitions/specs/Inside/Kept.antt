@@ -11,11 +11,11 @@ use Rattle.paper.specs.declared.Label.{Label}
 use Rattle.paper.specs.Formula.{has}
 use Rattle.paper.specs.Structure.Kept.{keptAt}
 use Rattle.rows.specs.Formula.{formulaAt}
-use Rattle.rows.specs.Walk.{Walkable}
+use Rattle.rows.specs.Inside.Walk.{Walkable}
 use Rattle.written.specs.Written.{labelsOn}
 use Rattle.keys.specs.declared.Distinct.{Distinct}
-use Rattle.marks.specs.Marks.{Marked}
-use Rattle.keys.specs.Keys.{total, keysAt}
+use Rattle.marks.specs.Inside.Chosen.{Marked}
+use Rattle.keys.specs.Inside.Keys.{total, keysAt}
 use Rattle.transitions.specs.declared.Shares.{Shares}
 use Rattle.transitions.specs.declared.Shares.the-variants.{Each, All, One, Done}
 use Rattle.transitions.specs.declared.Turn.{Turn}

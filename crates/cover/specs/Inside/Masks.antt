@@ -12,7 +12,7 @@ use Rattle.paper.specs.Formula.{𝓋}
 use Rattle.paper.specs.Judgement.{Judgement, refused}
 use Rattle.paper.specs.Structure.Fold.{Fold}
 use Rattle.entries.specs.First.{first}
-use Rattle.rows.specs.Walk.{valueAt}
+use Rattle.rows.specs.Inside.Walk.{valueAt}
 use Rattle.cover.specs.declared.Masks.{Masks}
 use Rattle.cover.specs.declared.Covering.{Covering}
 use Rattle.cover.specs.declared.Covering.the-variants.{Missed, Doubled, Covered}

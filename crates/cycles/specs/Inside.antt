@@ -1,0 +1,2 @@
+pub mod Cyclic
+pub mod Path

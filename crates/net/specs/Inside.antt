@@ -1,0 +1,2 @@
+pub mod Prior
+pub mod Net
