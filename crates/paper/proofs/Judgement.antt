@@ -16,6 +16,7 @@ use Rattle.paper.specs.Before.{before}
 use Rattle.paper.specs.Order.{Chain, onCycle}
 use Rattle.paper.specs.Strategy.{chosenOn, Strategy}
 use Rattle.paper.specs.Transition.{keys}
+use Rattle.paper.specs.Refusals.{Refusal, refusal}
 use Rattle.paper.specs.Judgement.{Judgement, accepted, refused, refuse, variables, strangers, missed, doubled, onCycles, judge}
 use Rattle.paper.specs.Statements.{AcceptedExactly, AcceptedOnlySo, Refusal13, OrderExists}
 use Rattle.paper.proofs.Bools.{not-so}
@@ -25,20 +26,28 @@ use Rattle.paper.proofs.Variables.{in-variables, to-variables}
 use Rattle.paper.proofs.Cycle.{chain-starts}
 use Rattle.paper.proofs.Order.{order-exists, before-between}
 
+-- the refusal that a judgement holds, if any: equal judgements have equal ones
+abbrev refusalIn : Judgement → Refusal
+refusalIn (accepted v n s t) = refusal 0 0
+refusalIn (refused r) = r
+
+same-number : {i j : Judgement} → i ≡ j → refusalIn i .number ≡ refusalIn j .number
+same-number e = ap (λ i. refusalIn i .number) e
+
 -- one check, of the offenders xs with the number k
 module _ {A : Type 0} (place : A → ℕ) (k : ℕ) where
   passed : (xs : List A) (next : Judgement) {v n s t : ℕ} → refuse k (map place xs) next ≡ accepted v n s t → (xs ≡ []) × (next ≡ accepted v n s t)
   passed [] next e = (refl, e)
   passed (x ∷ xs) next e = let z : _≡_ {A = ℕ} 0 1 = cc in absurd (omega arith)
 
-  not-refused : (xs : List A) (next : Judgement) {m p : ℕ} → (k ≡ m → ⊥) → refuse k (map place xs) next ≡ refused m p → next ≡ refused m p
+  not-refused : (xs : List A) (next : Judgement) {m p : ℕ} → (k ≡ m → ⊥) → refuse k (map place xs) next ≡ refused (refusal m p) → next ≡ refused (refusal m p)
   not-refused [] next d e = e
-  not-refused (x ∷ xs) next d e = absurd (d cc)
+  not-refused (x ∷ xs) next d e = absurd (d (same-number e))
 
-  refused-at : (xs : List A) (next : Judgement) {p : ℕ} → (next ≡ refused k p → ⊥) → refuse k (map place xs) next ≡ refused k p
+  refused-at : (xs : List A) (next : Judgement) {p : ℕ} → (next ≡ refused (refusal k p) → ⊥) → refuse k (map place xs) next ≡ refused (refusal k p)
       → (x : A) × (others : List A) × (xs ≡ x ∷ others) × (place x ≡ p)
   refused-at [] next d e = absurd (d e)
-  refused-at (x ∷ xs) next d e = (x, xs, refl, (cc))
+  refused-at (x ∷ xs) next d e = (x, xs, refl, ap (λ i. refusalIn i .place) e)
 
 module _ (#V : ℕ) (f : Formula) (A : List Label) where
   orders : OrderExists (before f A) A
@@ -60,7 +69,7 @@ module _ (#V : ℕ) (f : Formula) (A : List Label) where
 
   -- the last check, of the number of transitions
   abbrev lastCheck : Bool → Judgement
-  lastCheck more = cond more (refused 14 0) (accepted #V (length (labels f)) (length A) (length (keys f A)))
+  lastCheck more = cond more (refused (refusal 14 0)) (accepted #V (length (labels f)) (length A) (length (keys f A)))
 
   at-most : (more : Bool) {v n s t : ℕ} → ltb mostTransitions (length (keys f A)) ≡ more → lastCheck more ≡ accepted v n s t
       → length (keys f A) ≤ mostTransitions
@@ -111,11 +120,11 @@ module _ (#V : ℕ) (f : Formula) (A : List Label) where
   pub accepted-only-so : AcceptedOnlySo #V f A
   accepted-only-so v n s t e = accepts (passes v n s t e)
 
-  last-not-13 : (more : Bool) {p : ℕ} → lastCheck more ≡ refused 13 p → ⊥
-  last-not-13 true e = let z : _≡_ {A = ℕ} 13 14 = cc in omega arith
+  last-not-13 : (more : Bool) {p : ℕ} → lastCheck more ≡ refused (refusal 13 p) → ⊥
+  last-not-13 true e = let z : _≡_ {A = ℕ} 14 13 = same-number e in omega arith
   last-not-13 false e = let z : _≡_ {A = ℕ} 0 1 = cc in omega arith
 
-  first-on-cycle : (place : ℕ) → judge #V f A ≡ refused 13 place → (l : Label) × (others : List Label) × (onCycles f A ≡ l ∷ others) × (l .0 ≡ place)
+  first-on-cycle : (place : ℕ) → judge #V f A ≡ refused (refusal 13 place) → (l : Label) × (others : List Label) × (onCycles f A ≡ l ∷ others) × (l .0 ≡ place)
   first-on-cycle place e =
       let e₁ = not-refused (λ l. l .0) 10 (strangers f A) _ (λ q. omega arith) e in
       let e₂ = not-refused (λ v. v .0) 11 (missed #V f A) _ (λ q. omega arith) e₁ in

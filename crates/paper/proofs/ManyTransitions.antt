@@ -18,6 +18,7 @@ use Rattle.paper.specs.Order.{leads}
 use Rattle.paper.specs.Strategy.{chosenOn, MinimalCovering}
 use Rattle.paper.specs.Transition.{keys}
 use Rattle.paper.specs.Limits.{mostTransitions}
+use Rattle.paper.specs.Refusals.{refusal}
 use Rattle.paper.specs.Judgement.{accepted, refused, variables, strangers, missed, doubled, onCycles, judgeOrder, judge}
 use Rattle.paper.specs.Structure.Cover.{coverOf}
 use Rattle.paper.specs.Structure.KeyCount.{numberOf}
@@ -117,7 +118,7 @@ module _ (f : Formula) (A : List Label) (quiet : silent f ≡ true) where
 
 -- the judgement, where no star reads anything
 judged-by-count : (#V : ℕ) (f : Formula) (A : List Label) → WellFormed #V f → isCovered #V f A ≡ true → silent f ≡ true
-    → (n : ℕ) → numberOf A f ≡ n → judge #V f A ≡ cond (ltb mostTransitions n) (refused 14 0) (accepted #V (length (labels f)) (length A) n)
+    → (n : ℕ) → numberOf A f ≡ n → judge #V f A ≡ cond (ltb mostTransitions n) (refused (refusal 14 0)) (accepted #V (length (labels f)) (length A) n)
 judged-by-count #V f A formed covered quiet n e =
     passes-12 #V f A formed covered ∙ rw (no-cycles f A quiet) (rw (count-is #V f A formed covered ∙ e))
 
@@ -126,7 +127,7 @@ first-of-those : (p : Label → Bool) {A : List Label} {l : Label} {ls : List La
 first-of-those p e h = rw (e, h)
 
 judged-by-cycle : (#V : ℕ) (f : Formula) (A : List Label) (l : Label) (ls : List Label) → A ≡ l ∷ ls → WellFormed #V f → isCovered #V f A ≡ true
-    → before f A l l ≡ true → judge #V f A ≡ refused 13 (l .0)
+    → before f A l l ≡ true → judge #V f A ≡ refused (refusal 13 (l .0))
 judged-by-cycle #V f A l ls e formed covered cycle =
     passes-12 #V f A formed covered ∙ rw (first-of-those (λ l. leads (before f A) A l l) e (self-lead (before f A) l cycle A))
 
@@ -135,11 +136,11 @@ pub four-accepted : judge 4 fourChoices allOfFour ≡ accepted 4 569 282 65535
 four-accepted = judged-by-count 4 fourChoices allOfFour (of-well-formed 4 fourChoices refl) refl refl 65535 refl
 
 -- Sixteen disjunctions of two: 14.
-pub sixteen-refused : judge 16 sixteenChoices allOfSixteen ≡ refused 14 0
+pub sixteen-refused : judge 16 sixteenChoices allOfSixteen ≡ refused (refusal 14 0)
 sixteen-refused = judged-by-count 16 sixteenChoices allOfSixteen (of-well-formed 16 sixteenChoices refl) refl refl 65536 refl
 
 -- A cycle shows before that: there are as many keys, and it is 13 at 2.
-pub cycle-first : judge 16 sixteenInCycle allOfSixteen ≡ refused 13 2
+pub cycle-first : judge 16 sixteenInCycle allOfSixteen ≡ refused (refusal 13 2)
 cycle-first = judged-by-cycle 16 sixteenInCycle allOfSixteen (ℓ 2) (drop 1 allOfSixteen) refl (of-well-formed 16 sixteenInCycle refl) refl refl
 
 pub as-many-keys : length (keys sixteenInCycle allOfSixteen) ≡ 65536

@@ -11,6 +11,7 @@ use Rattle.paper.specs.Formula.{Label, ℓ, 𝓋, has, Star, Formula, FA
 use Rattle.paper.specs.Before.{before}
 use Rattle.paper.specs.Order.{order}
 use Rattle.paper.specs.Transition.{keys, keptLabels}
+use Rattle.paper.specs.Refusals.{Refusal, refusal}
 use Rattle.paper.specs.Judgement.{Judgement, accepted, refused, judge}
 
 -- a transition as the listing shows it: its chosen labels in reported order, its kept labels ascending
@@ -33,12 +34,15 @@ pub record Case : Type 0 where
 abbrev pub line : List ℕ → List ℕ → Line
 line assign keep = record { assign = assign; keep = keep }
 
--- accepted with V, N, S and the count; refused with a number and a place
+-- accepted with V, N, S and the count; refused, or so with a number and a place
 abbrev pub acceptedWith : ℕ → ℕ → ℕ → ℕ → List ℕ → List Line → Answer
 acceptedWith v n s t order transitions = record { judgement = accepted v n s t; order = order; transitions = transitions }
 
+abbrev pub refusing : Refusal → Answer
+refusing r = record { judgement = refused r; order = []; transitions = [] }
+
 abbrev pub refusedWith : ℕ → ℕ → Answer
-refusedWith number place = record { judgement = refused number place; order = []; transitions = [] }
+refusedWith number place = refusing (refusal number place)
 
 abbrev pub numbers : List Label → List ℕ
 numbers = map (λ l. l .0)
@@ -52,7 +56,7 @@ lineOf f A k = line (numbers (those (has k) (order (before f A) A))) (numbers (k
 
 abbrev pub answerAfter : Judgement → Formula → List Label → Answer
 answerAfter (accepted v n s t) f A = acceptedWith v n s t (numbers (order (before f A) A)) (map (lineOf f A) (keys f A))
-answerAfter (refused number place) f A = refusedWith number place
+answerAfter (refused r) f A = refusing r
 
 -- the number of variables and the proposal of a case, and what the definitions answer
 abbrev pub variables : Case → ℕ

@@ -5,7 +5,7 @@ use mathlib.Core.Bool.{cond, not}
 use mathlib.Core.List.{List, [], _∷_, _++_, map}
 use lib.Dec.{eqb, ltb}
 use lib.ListN.{length}
-use Rattle.paper.specs.Refusals.{noCandidate, noOrder, tooMany, variableMissed, variableTwice}
+use Rattle.paper.specs.Refusals.{Refusal, refusal, noCandidate, noOrder, tooMany, variableMissed, variableTwice}
 use Rattle.paper.specs.Limits.{mostTransitions}
 use Rattle.paper.specs.Lists.{anyOf, those}
 use Rattle.paper.specs.Formula.{Label, Variable, 𝓋, Formula, labels, isCandidate}
@@ -15,15 +15,15 @@ use Rattle.paper.specs.Order.{onCycle}
 use Rattle.paper.specs.Strategy.{chosenOn}
 use Rattle.paper.specs.Transition.{keys}
 
--- accepted with V, N, S and the number of transitions; refused with a number and a place
+-- accepted with V, N, S and the number of transitions; or refused
 pub data Judgement : Type 0 where
   accepted : ℕ → ℕ → ℕ → ℕ → Judgement
-  refused : ℕ → ℕ → Judgement
+  refused : Refusal → Judgement
 
 -- refused at the first offender, or else what follows
 abbrev pub refuse : ℕ → List ℕ → Judgement → Judgement
 refuse number [] next = next
-refuse number (place ∷ others) next = refused number place
+refuse number (place ∷ others) next = refused (refusal number place)
 
 -- the variables 0 to #V - 1
 abbrev pub variables : ℕ → List Variable
@@ -49,7 +49,7 @@ onCycles f A = those (onCycle (before f A) A) A
 -- 14, or an acceptance
 abbrev pub judgeCount : ℕ → Formula → List Label → Judgement
 judgeCount #V f A =
-    cond (ltb mostTransitions (length (keys f A))) (refused tooMany 0) (accepted #V (length (labels f)) (length A) (length (keys f A)))
+    cond (ltb mostTransitions (length (keys f A))) (refused (refusal tooMany 0)) (accepted #V (length (labels f)) (length A) (length (keys f A)))
 
 -- 13, and what follows it
 abbrev pub judgeOrder : ℕ → Formula → List Label → Judgement

@@ -1,6 +1,7 @@
 -- The refusal numbers, in document 01's order of checks ("Refusal numbers, in the order of checks"), each under the name that
--- code and the header for C have for it in capitals.
+-- code and the header for C have for it in capitals; and the refusal with a number and a place.
 use Prim.Native.Nat.{ℕ}
+pub use Rattle.paper.specs.declared.Refusal.{Refusal}
 
 -- a count or the rest of its section is absent
 abbrev pub absent : ℕ
@@ -73,3 +74,7 @@ outTooShort = 16
 -- the lister was given an odd number of bytes
 abbrev pub oddBytes : ℕ
 oddBytes = 17
+
+-- the refusal with this number, at this place
+abbrev pub refusal : ℕ → ℕ → Refusal
+refusal number place = record { number = number; place = place }

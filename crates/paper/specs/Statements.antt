@@ -19,6 +19,7 @@ use Rattle.paper.specs.Strategy.{Homogeneous, MinimalCovering, Strategy}
 use Rattle.paper.specs.Transition.{sliceBy, key, isLower, class, isKept, keys, transitions}
 use Rattle.paper.specs.Meaning.{Meaning, True}
 use Rattle.paper.specs.Carry.{Carried, unset}
+use Rattle.paper.specs.Refusals.{refusal}
 use Rattle.paper.specs.Judgement.{accepted, refused, missed, doubled, judge}
 use Rattle.paper.specs.Structure.Cover.{coverOf}
 use Rattle.paper.specs.Structure.KeyCount.{numberOf}
@@ -85,7 +86,7 @@ module _ (#V : ℕ) (f : Formula) (A : List Label) where
     pub lowest : (l : Label) → Chain (before f A) l l → place ≤ l .0
 
   abbrev pub Refusal13 : Type 0
-  Refusal13 = Rising 0 A → (place : ℕ) → judge #V f A ≡ refused 13 place → LowestOnCycle place
+  Refusal13 = Rising 0 A → (place : ℕ) → judge #V f A ≡ refused (refusal 13 place) → LowestOnCycle place
 
 -- An order exists exactly if the greedy order places every label, exactly if there is no cycle, exactly if the test finds
 -- none: for any relation R between labels of A, as "before" is.

@@ -1,5 +1,9 @@
 // The refusal numbers, in document 01's order of checks ("Refusal numbers, in the order of checks"), under the names of
-// specs/Refusals.antt.
+// specs/Refusals.antt; and the refusal with a number and a place.
+ghost use mathlib.Core.Path.{_≡_};
+ghost use Prim.Native.Nat.{_<_, _^_};
+ghost use Rattle.paper.specs.Refusals.{refusal};
+use crate::Refusal;
 
 // A count or the rest of its section is absent.
 pub const ABSENT: u8 = 1;
@@ -54,3 +58,14 @@ pub const OUT_TOO_SHORT: u8 = 16;
 
 // The lister was given an odd number of bytes.
 pub const ODD_BYTES: u8 = 17;
+
+// The refusal with this number, at this place. Every refusal is made here.
+pub fn refusal_at(number: u8, place: usize) -> Refusal
+    requires { ⌜ place < 2 ^ 32 ⌝ }
+    ensures { λ r. ⌜ r ≡ refusal number place ⌝ }
+{
+    Refusal {
+        number,
+        place: place as u32,
+    }
+}
