@@ -8,8 +8,9 @@ use mathlib.Core.List.{List, _++_}
 use lib.Dec.{eqb, leb}
 use lib.ListN.{length, drop}
 use borrow.Author.Tests.{le-ltb, le-leb, lt-leb, leb-false, eq-eqb, ne-eqb, eqb-true}
+use Rattle.paper.specs.declared.Refusal.{Refusal}
+use Rattle.paper.specs.Refusals.{refusal}
 use Rattle.table.specs.declared.Layout.{Layout}
-use Rattle.sections.specs.declared.Refusal.{Refusal}
 use Rattle.verdict.specs.declared.Accepted.{Accepted}
 use Rattle.verdict.specs.declared.Judged.{Judged}
 use Rattle.verdict.specs.declared.Judged.the-variants as judged
@@ -32,12 +33,12 @@ module _ (words : List ℕ) (j : Judged) (answered : j ≡ judgedOf words) where
   accepted-first a e next f = rw (← answered, e) f
 
 module _ (what : List ℕ → Layout → ℕ → List ℕ) (words : List ℕ) (k : ℕ) (l : Layout) (count : ℕ) (lent : List ℕ) where
-  pub absent : {r : Filled} → count ≤ k → r ≡ filledOf (refuses 15 count) → Fills (ofTransition what words k (length lent) l count) lent lent r
+  pub absent : {r : Filled} → count ≤ k → r ≡ filledOf (refuses (refusal 15 count)) → Fills (ofTransition what words k (length lent) l count) lent lent r
   unfolding ofTransition
   absent h e = rw (le-leb count k h) (record { answered = e; left-so = refl })
 
   module _ (there : k < count) (n : ℕ) (many : n ≡ length (keyOf words l k)) where
-    pub not-whole : {r : Filled} → (n ≡ l .variables → ⊥) → r ≡ filledOf (refuses 18 k) → Fills (ofTransition what words k (length lent) l count) lent lent r
+    pub not-whole : {r : Filled} → (n ≡ l .variables → ⊥) → r ≡ filledOf (refuses (refusal 18 k)) → Fills (ofTransition what words k (length lent) l count) lent lent r
     unfolding ofTransition
     not-whole h e = rw (lt-leb count k there, ← many, ne-eqb n (l .variables) h) (record { answered = e; left-so = refl })
 
@@ -49,7 +50,7 @@ module _ (what : List ℕ → Layout → ℕ → List ℕ) (words : List ℕ) (k
 -- Whatever else is asked of transition k is refused as its bytes are, where there is room for them; and once they are filled, the
 -- transition is there, it is whole, and they stand in front.
 abbrev decided : ℕ → ℕ → Bool → Bool → Outcome → Outcome
-decided k count isAbsent isWhole next = cond isAbsent (refuses 15 count) (cond isWhole next (refuses 18 k))
+decided k count isAbsent isWhole next = cond isAbsent (refuses (refusal 15 count)) (cond isWhole next (refuses (refusal 18 k)))
 
 abbrev countIn : Filled → ℕ
 countIn (filled.Done n) = n .count

@@ -5,7 +5,7 @@ use mathlib.Core.Bool.{cond}
 use mathlib.Core.List.{List, [], map}
 use lib.Dec.{eqb, leb}
 use lib.ListN.{length, getD}
-use Rattle.paper.specs.Refusals.{noSuchTransition, uneven}
+use Rattle.paper.specs.Refusals.{refusal, noSuchTransition, uneven}
 use Rattle.paper.specs.declared.Label.{Label}
 use Rattle.paper.specs.Lists.{those}
 use Rattle.paper.specs.Formula.{has, labels}
@@ -51,7 +51,7 @@ module _ (words : List ℕ) (l : Layout) where
 
 -- 15: number k is not below the count; 18: transition k has not V chosen labels
 abbrev pub unlessAbsent : ℕ → ℕ → ℕ → List Label → Outcome → Outcome
-unlessAbsent k count #V key next = cond (leb count k) (refuses noSuchTransition count) (cond (eqb (length key) #V) next (refuses uneven k))
+unlessAbsent k count #V key next = cond (leb count k) (refuses (refusal noSuchTransition count)) (cond (eqb (length key) #V) next (refuses (refusal uneven k)))
 
 abbrev pub orderOutcome : List ℕ → ℕ → Layout → ℕ → Outcome
 orderOutcome words room l count = unlessShort room (map (λ i. i .0) (reported words l))
@@ -68,7 +68,7 @@ assignmentsOutcome = ofTransition assignedOf
 
 -- the judgement first
 unfoldable pub outcomeOf : Judged → (Layout → ℕ → Outcome) → Outcome
-outcomeOf (judged.Refused r) next = refuses (r .number) (r .place)
+outcomeOf (judged.Refused r) next = refuses r
 outcomeOf (judged.Accepted a) next = next (a .layout) (a .transitions)
 
 -- Order: the first S words. Transition k: the first N bytes. Assignments of transition k: V words.

@@ -2,7 +2,7 @@
 // judged. specs/Requests.antt says what is answered to any words.
 pub mod judged; // transitions and assignments, for a caller that has judged
 
-use sections::Refusal;
+use paper::Refusal;
 
 // What an accepted judgement counts: V, N, S and the transitions.
 pub struct Counts {

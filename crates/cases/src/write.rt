@@ -1,6 +1,6 @@
 // What is printed: text, and numbers each after a space.
 use libc::STDOUT_FILENO;
-use sections::Refusal;
+use paper::Refusal;
 
 pub fn text(bytes: &[u8]) {
     io::write_all(STDOUT_FILENO, bytes);

@@ -8,7 +8,8 @@ use mathlib.Core.Logic.{inl, inr}
 use mathlib.Core.List.{List, map}
 use lib.Dec.{eqb, ltb, leb}
 use lib.ListN.{length}
-use Rattle.sections.specs.declared.Refusal.{Refusal}
+use Rattle.paper.specs.declared.Refusal.{Refusal}
+use Rattle.paper.specs.Refusals.{refusal}
 use Rattle.table.specs.declared.Layout.{Layout}
 use Rattle.verdict.specs.declared.Judged.{Judged}
 use Rattle.verdict.specs.declared.Judged.the-variants as judged
@@ -35,16 +36,16 @@ judge-is-answer words r p = go (judgedOf words) (judged-gives words) p
 
 -- an outcome that fills, or refuses with a number that the request gives
 abbrev OutcomeGives : (ℕ → Type 0) → Outcome → Type 0
-OutcomeGives Gives (refuses number place) = Gives number
+OutcomeGives Gives (refuses x) = Gives (x .number)
 OutcomeGives Gives (fills ws) = Unit {0}
 
 module _ {lent left : List ℕ} {r : ℕ} where
   fill-is-answer : (Gives : ℕ → Type 0) (o : Outcome) → OutcomeGives Gives o → FillsPacked o lent left r → IsAnswer Gives r
-  fill-is-answer Gives (refuses number place) g f = is-refusal Gives (record { number = number; place = place }) r (f .read-so) g
+  fill-is-answer Gives (refuses x) g f = is-refusal Gives x r (f .read-so) g
   fill-is-answer Gives (fills ws) g f = inl (f .read-so .no-refusal)
 
   nothing-written : (o : Outcome) → FillsPacked o lent left r → 1 ≤ refusalNumber r → left ≡ lent
-  nothing-written (refuses number place) f h = f .left-so
+  nothing-written (refuses x) f h = f .left-so
   nothing-written (fills ws) f h = let z = f .read-so .no-refusal in absurd (omega arith)
 
   refused-first : (words : List ℕ) (j : ℕ) → AnswerPacked (judgeOf words) j → 1 ≤ refusalNumber j → (next : Layout → ℕ → Outcome)
@@ -79,7 +80,7 @@ module _ (words : List ℕ) (Gives : ℕ → Type 0) (more : (n : ℕ) → Judge
 short-gives : (Gives : ℕ → Type 0) → Gives 16 → (room : ℕ) (ws : List ℕ) → OutcomeGives Gives (unlessShort room ws)
 short-gives Gives g room ws = go (ltb room (length ws))
   where
-    go : (b : Bool) → OutcomeGives Gives (cond b (refuses 16 (length ws)) (fills ws))
+    go : (b : Bool) → OutcomeGives Gives (cond b (refuses (refusal 16 (length ws))) (fills ws))
     go true = g
     go false = tt
 
@@ -88,7 +89,7 @@ transition-gives : (what : List ℕ → Layout → ℕ → List ℕ) (words : Li
 unfolding ofTransition
 transition-gives what words k room l count = go (leb count k) (eqb (length (keyOf words l k)) (l .variables))
   where
-    go : (a w : Bool) → OutcomeGives TransitionGives (cond a (refuses 15 count) (cond w (unlessShort room (what words l k)) (refuses 18 k)))
+    go : (a w : Bool) → OutcomeGives TransitionGives (cond a (refuses (refusal 15 count)) (cond w (unlessShort room (what words l k)) (refuses (refusal 18 k))))
     go true w = inr (inl refl)
     go false true = short-gives TransitionGives (inr (inr (inr refl))) room (what words l k)
     go false false = inr (inr (inl refl))

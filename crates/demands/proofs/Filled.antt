@@ -5,6 +5,7 @@ use mathlib.Core.List.{List, map}
 use lib.ListN.{length, take, drop}
 use lib.Seq.{take-append-seam, drop-append-seam}
 use borrow.Author.Tests.{le-ltb, lt-ltb, le-leb, lt-leb, eq-eqb}
+use Rattle.paper.specs.Refusals.{refusal}
 use Rattle.paper.specs.declared.Label.{Label}
 use Rattle.table.specs.declared.Layout.{Layout}
 use Rattle.verdict.specs.declared.Accepted.{Accepted}
@@ -27,9 +28,9 @@ module _ {lent left : List ℕ} {s : ℕ} (o : Outcome) (f : FillsPacked o lent 
         ap (λ i. drop i left) many ∙ ap (drop (length ws)) (g .left-so) ∙ drop-append-seam ws (drop (length ws) lent) ∙ ap (λ i. drop i lent) (sym many),
       )
 
-  pub refuses-so : (number place n : ℕ) → o ≡ refuses number place → n ≡ place → (refusalNumber s ≡ number) × (refusalPlace s ≡ n) × (left ≡ lent)
+  pub refuses-so : (number place n : ℕ) → o ≡ refuses (refusal number place) → n ≡ place → (refusalNumber s ≡ number) × (refusalPlace s ≡ n) × (left ≡ lent)
   refuses-so number place n e same =
-      let g : FillsPacked (refuses number place) lent left s = subst (λ x. FillsPacked x lent left s) e f in
+      let g : FillsPacked (refuses (refusal number place)) lent left s = subst (λ x. FillsPacked x lent left s) e f in
       (g .read-so .number-is, g .read-so .place-is ∙ sym same, g .left-so)
 
 -- Accepted words: the outcomes of the requests.
@@ -40,7 +41,7 @@ module _ (words : List ℕ) (a : Accepted) (e : judgedOf words ≡ judged.Accept
   enough : (room : ℕ) (ws : List ℕ) → length ws ≤ room → unlessShort room ws ≡ fills ws
   enough room ws h = rw (le-ltb room (length ws) h)
 
-  short : (room : ℕ) (ws : List ℕ) → room < length ws → unlessShort room ws ≡ refuses 16 (length ws)
+  short : (room : ℕ) (ws : List ℕ) → room < length ws → unlessShort room ws ≡ refuses (refusal 16 (length ws))
   short room ws h = rw (lt-ltb room (length ws) h)
 
   abbrev order : List ℕ
@@ -50,7 +51,7 @@ module _ (words : List ℕ) (a : Accepted) (e : judgedOf words ≡ judged.Accept
   unfolding outcomeOf
   order-given room h = ap (λ j. outcomeOf j (orderOutcome words room)) e ∙ enough room order h
 
-  pub order-short : (room : ℕ) → room < length order → orderOf words room ≡ refuses 16 (length order)
+  pub order-short : (room : ℕ) → room < length order → orderOf words room ≡ refuses (refusal 16 (length order))
   unfolding outcomeOf
   order-short room h = ap (λ j. outcomeOf j (orderOutcome words room)) e ∙ short room order h
 
@@ -69,8 +70,8 @@ module _ (words : List ℕ) (a : Accepted) (e : judgedOf words ≡ judged.Accept
     pub transition-given : k < a .transitions → length (what words l k) ≤ room → outcome ≡ fills (what words l k)
     transition-given h g = present h ∙ enough room (what words l k) g
 
-    pub transition-short : k < a .transitions → room < length (what words l k) → outcome ≡ refuses 16 (length (what words l k))
+    pub transition-short : k < a .transitions → room < length (what words l k) → outcome ≡ refuses (refusal 16 (length (what words l k)))
     transition-short h g = present h ∙ short room (what words l k) g
 
-    pub transition-absent : a .transitions ≤ k → outcome ≡ refuses 15 (a .transitions)
+    pub transition-absent : a .transitions ≤ k → outcome ≡ refuses (refusal 15 (a .transitions))
     transition-absent h = decided ∙ rw (le-leb (a .transitions) k h)

@@ -6,6 +6,8 @@ use mathlib.Core.Bool.{Bool, true, false, cond, _||_}
 use mathlib.Core.List.{List, [], _∷_, map}
 use lib.Dec.{ltb, eqb}
 use lib.ListN.{length, getD, drop}
+use Rattle.paper.specs.declared.Refusal.{Refusal}
+use Rattle.paper.specs.Refusals.{refusal}
 use Rattle.paper.specs.declared.Label.{Label}
 use Rattle.paper.specs.Formula.{Formula, labels}
 use Rattle.paper.specs.Limits.{mostTransitions}
@@ -14,7 +16,6 @@ use Rattle.paper.specs.Transition.{keys}
 use Rattle.entries.specs.First.{first}
 use Rattle.entries.specs.Entries.{falls, beyond}
 use Rattle.rows.specs.Rows.{breaksRules, takenBefore, isDeep}
-use Rattle.sections.specs.declared.Refusal.{Refusal}
 use Rattle.sections.specs.declared.Cursor.{Cursor}
 use Rattle.sections.specs.declared.Step.{Step}
 use Rattle.sections.specs.declared.Step.the-variants.{Next, Halt}
@@ -91,7 +92,7 @@ sections-give words =
 -- a judgement that accepts, or refuses with such a number
 abbrev JudgementGives : Judgement → Type 0
 JudgementGives (accepted v n s t) = Unit {0}
-JudgementGives (refused number place) = JudgeGives number
+JudgementGives (refused x) = JudgeGives (x .number)
 
 refuse-gives : (number : ℕ) (places : List ℕ) (next : Judgement) → JudgeGives number → JudgementGives next → JudgementGives (refuse number places next)
 refuse-gives number [] next g h = h
@@ -104,7 +105,7 @@ judge-gives #V f A =
     (refuse-gives 12 (map (λ v. v .0) (doubled #V f A)) _ (omega arith, omega arith)
     (refuse-gives 13 (map (λ l. l .0) (onCycles f A)) _ (omega arith, omega arith) (last (ltb mostTransitions (length (keys f A)))))))
   where
-    last : (b : Bool) → JudgementGives (cond b (refused 14 0) (accepted #V (length (labels f)) (length A) (length (keys f A))))
+    last : (b : Bool) → JudgementGives (cond b (refused (refusal 14 0)) (accepted #V (length (labels f)) (length A) (length (keys f A))))
     last true = (omega arith, omega arith)
     last false = tt
 
@@ -115,7 +116,7 @@ AnswerGives (judged.Refused x) = JudgeGives (x .number)
 
 answers-give : (l : Layout) (j : Judgement) → JudgementGives j → AnswerGives (answerOf l j)
 answers-give l (accepted v n s t) g = tt
-answers-give l (refused number place) g = g
+answers-give l (refused x) g = g
 
 pub judged-gives : (words : List ℕ) → AnswerGives (judgedOf words)
 unfolding judgedOf checked

@@ -7,13 +7,14 @@ use mathlib.Core.Bool.{cond}
 use mathlib.Core.List.{List, [], _∷_, _++_, map}
 use lib.Dec.{eqb}
 use lib.ListN.{length}
+use Rattle.paper.specs.declared.Refusal.{Refusal}
+use Rattle.paper.specs.Refusals.{refusal}
 use Rattle.paper.specs.Lists.{anyOf}
 use Rattle.paper.specs.Judgement.{Judgement, accepted, refused}
 use Rattle.paper.specs.Cases.{Line, proposal, starredFormulas}
 use Rattle.paper.specs.Cases as paper
 use Rattle.paper.specs.FurtherCases.{firstChecks, lowestShows, beforeOthers, numberedByKeys}
 use Rattle.paper.specs.Lists.{upTo}
-use Rattle.sections.specs.Sections.{refusal}
 use Rattle.written.specs.Written.{written}
 use Rattle.filling.specs.Filling.{Outcome, refuses, fills}
 use Rattle.answers.specs.declared.Answer.{Answer}
@@ -44,8 +45,11 @@ listing words = record {
   assigned = map (λ k. assignmentsOf words k 4096) (upTo (countIn (judgeOf words)));
 }
 
+abbrev pub refusing : Refusal → Listing
+refusing r = record { judged = answer.Refused r; ordered = refuses r; kept = []; assigned = [] }
+
 abbrev pub refusesWith : ℕ → ℕ → Listing
-refusesWith number place = record { judged = answer.Refused (refusal number place); ordered = refuses number place; kept = []; assigned = [] }
+refusesWith number place = refusing (refusal number place)
 
 -- words that are refused
 abbrev pub faulty : List ℕ → ℕ → ℕ → Case
@@ -77,7 +81,7 @@ listed (accepted v n s t) order lines = record {
   kept = map (λ l. fills (marks n (l .keep))) lines;
   assigned = map (λ l. fills (l .assign)) lines;
 }
-listed (refused number place) order lines = refusesWith number place
+listed (refused r) order lines = refusing r
 
 -- the words that write a formula with its names and its proposal
 abbrev pub wordsOf : paper.Case → List ℕ

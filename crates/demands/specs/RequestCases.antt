@@ -3,8 +3,8 @@
 use Prim.Native.Nat.{ℕ}
 use mathlib.Core.List.{List, [], _∷_}
 use lib.ListN.{length}
+use Rattle.paper.specs.Refusals.{refusal}
 use Rattle.paper.specs.Formula.{ℓ}
-use Rattle.sections.specs.Sections.{refusal}
 use Rattle.written.specs.Example.{wordsOfP}
 use Rattle.filling.specs.declared.Filled.{Filled}
 use Rattle.filling.specs.declared.Filled.the-variants as filled
@@ -78,11 +78,11 @@ check asked wanted = record { asked = asked; wanted = wanted }
 abbrev pub checks : List Check
 checks =
     -- transition 1 has one chosen label: 18 at 1, before 16
-    check (unlessAbsent 1 3 2 (ℓ 5 ∷ []) (refuses 16 2)) (refuses 18 1)
+    check (unlessAbsent 1 3 2 (ℓ 5 ∷ []) (refuses (refusal 16 2))) (refuses (refusal 18 1))
     -- it has three
-    ∷ check (unlessAbsent 1 3 2 (ℓ 5 ∷ ℓ 7 ∷ ℓ 9 ∷ []) (refuses 16 2)) (refuses 18 1)
+    ∷ check (unlessAbsent 1 3 2 (ℓ 5 ∷ ℓ 7 ∷ ℓ 9 ∷ []) (refuses (refusal 16 2))) (refuses (refusal 18 1))
     -- it has two
-    ∷ check (unlessAbsent 1 3 2 (ℓ 5 ∷ ℓ 7 ∷ []) (refuses 16 2)) (refuses 16 2)
+    ∷ check (unlessAbsent 1 3 2 (ℓ 5 ∷ ℓ 7 ∷ []) (refuses (refusal 16 2))) (refuses (refusal 16 2))
     -- there is no transition 3: 15 at 3, before 18
-    ∷ check (unlessAbsent 3 3 2 [] (refuses 16 2)) (refuses 15 3)
+    ∷ check (unlessAbsent 3 3 2 [] (refuses (refusal 16 2))) (refuses (refusal 15 3))
     ∷ []

@@ -10,7 +10,7 @@ use Rattle.filling.specs.Filling.{Outcome, refuses, fills, Fills, IsRefu
 use Rattle.filling.proofs as filling
 
 pub as-it-was : (o : Outcome) {lent left : List ℕ} {r : Filled} → Fills o lent left r → IsRefusal r → left ≡ lent
-as-it-was (refuses number place) f h = f .left-so
+as-it-was (refuses r) f h = f .left-so
 as-it-was (fills ws) f h = absurd (subst IsRefusal (f .answered) h)
 
 pub fill-words :

@@ -6,28 +6,28 @@ use mathlib.Core.List.{List}
 use mathlib.Core.Path.{_≡_}
 use lib.Dec.{ltb}
 use lib.ListN.{length}
-use Rattle.paper.specs.Refusals.{outTooShort}
+use Rattle.paper.specs.declared.Refusal.{Refusal}
+use Rattle.paper.specs.Refusals.{refusal, outTooShort}
 use Rattle.entries.specs.Front.{inFront}
-use Rattle.sections.specs.Sections.{refusal}
 use Rattle.filling.specs.declared.Filled.{Filled}
 use Rattle.filling.specs.declared.Filled.the-variants as filled
 
--- What a request that fills does: a refusal, with its number and place, or what stands at the front of the lent slice.
+-- What a request that fills does: a refusal, or what stands at the front of the lent slice.
 pub data Outcome : Type 0 where
-  refuses : ℕ → ℕ → Outcome
+  refuses : Refusal → Outcome
   fills : List ℕ → Outcome
 
 -- 16: the lent slice is too short
 abbrev pub unlessShort : ℕ → List ℕ → Outcome
-unlessShort room ws = cond (ltb room (length ws)) (refuses outTooShort (length ws)) (fills ws)
+unlessShort room ws = cond (ltb room (length ws)) (refuses (refusal outTooShort (length ws))) (fills ws)
 
 -- the answer, and the lent slice afterwards: a refusal leaves it as it was, and what lies beyond what is filled stays
 abbrev pub filledOf : Outcome → Filled
-filledOf (refuses number place) = filled.Refused (refusal number place)
+filledOf (refuses r) = filled.Refused r
 filledOf (fills ws) = filled.Done (record { count = length ws })
 
 abbrev pub after : Outcome → List ℕ → List ℕ
-after (refuses number place) out = out
+after (refuses r) out = out
 after (fills ws) out = inFront ws out
 
 -- the answer is a refusal

@@ -5,10 +5,12 @@ ghost use lib.ListN.{length, take};
 ghost use Rattle.filling.specs.Filling.{refuses, unlessShort, filledOf, Fills};
 ghost use Rattle.filling.specs.Inside.Copied.{copied};
 ghost use Rattle.paper.specs.Limits.{mostRows, slots};
+ghost use Rattle.paper.specs.Refusals.{refusal};
+use paper::Refusal;
 use paper::limits::MOST_ROWS;
 use paper::limits::SLOTS;
 use paper::refusals::OUT_TOO_SHORT;
-use sections::Refusal;
+use paper::refusals::refusal_at;
 
 // How many words or bytes a request filled.
 pub struct Length {
@@ -24,12 +26,9 @@ pub enum Filled {
 // A refusal as the answer of a request that fills.
 pub fn refused(number: u8, place: usize) -> Filled
     requires { ⌜ place ≤ 65535 ⌝ }
-    ensures { λ r. ⌜ r ≡ filledOf (refuses number place) ⌝ }
+    ensures { λ r. ⌜ r ≡ filledOf (refuses (refusal number place)) ⌝ }
 {
-    Filled::Refused(Refusal {
-        number,
-        place: place as u32,
-    })
+    Filled::Refused(refusal_at(number, place))
 }
 
 // Copies the first `count` words.

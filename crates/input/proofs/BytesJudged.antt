@@ -4,15 +4,17 @@ use mathlib.Core.Path.{_≡_}
 use mathlib.Core.List.{List}
 use lib.ListN.{length}
 use borrow.Author.Tests.{eq-eqb, ne-eqb}
+use Rattle.paper.specs.declared.Refusal.{Refusal}
+use Rattle.paper.specs.Refusals.{refusal}
 use Rattle.verdict.specs.declared.Judged.{Judged}
-use Rattle.verdict.specs.Verdict.{refusedAt}
+use Rattle.verdict.specs.declared.Judged.the-variants as judged
 use Rattle.strategy.specs.Judge.{orderLeft, JudgedInto}
 use Rattle.input.specs.Bytes.{wordsOf, judgedBytes, orderLeftOf, JudgedBytes}
 
 module _ {bytes lent : List ℕ} where
-  pub odd-judged : length bytes % 2 ≡ 1 → JudgedBytes bytes lent lent (refusedAt 17 (length bytes / 2))
+  pub odd-judged : {x : Refusal} → length bytes % 2 ≡ 1 → x ≡ refusal 17 (length bytes / 2) → JudgedBytes bytes lent lent (judged.Refused x)
   unfolding judgedBytes orderLeftOf
-  odd-judged odd = let is-odd = eq-eqb (length bytes % 2) 1 odd in record { answered = rw is-odd; left-so = rw is-odd }
+  odd-judged odd e = let is-odd = eq-eqb (length bytes % 2) 1 odd in rw e (record { answered = rw is-odd; left-so = rw is-odd })
 
   pub even-judged : {words left : List ℕ} {r : Judged} → words ≡ wordsOf bytes → (length bytes % 2 ≡ 1 → ⊥) → JudgedInto words lent left r
       → JudgedBytes bytes lent left r

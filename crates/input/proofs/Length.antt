@@ -7,7 +7,7 @@ use mathlib.Core.Bool.{Bool, true, false, cond}
 use mathlib.Core.List.{List}
 use lib.ListN.{length, length-append}
 use borrow.Author.Tests.{eqb-false}
-use Rattle.sections.specs.declared.Refusal.{Refusal}
+use Rattle.paper.specs.declared.Refusal.{Refusal}
 use Rattle.written.proofs.Tables.{understood}
 use Rattle.verdict.specs.declared.Judged.{Judged}
 use Rattle.verdict.specs.declared.Judged.the-variants as judged

@@ -6,7 +6,7 @@ ghost use Rattle.input.specs.Bytes.{wordsOf, JudgedBytes};
 ghost use Rattle.paper.specs.Limits.{mostBytes, slots};
 use paper::limits::SLOTS;
 use paper::refusals::ODD_BYTES;
-use sections::Refusal;
+use paper::refusals::refusal_at;
 use strategy::judge_into;
 use verdict::Judged;
 
@@ -17,10 +17,7 @@ pub fn judge_bytes(bytes: &[u8], words: &[u16], order: &mut [u16; SLOTS]) -> Jud
     ensures { λ r. ⌜ JudgedBytes (now (bytes .entry)) (now (order .entry)) (now (order .exit)) r ⌝ }
 {
     if bytes.len() % 2 == 1 {
-        return Judged::Refused(Refusal {
-            number: ODD_BYTES,
-            place: (bytes.len() / 2) as u32,
-        });
+        return Judged::Refused(refusal_at(ODD_BYTES, bytes.len() / 2));
     }
     judge_into(words, order)
 }

@@ -7,9 +7,9 @@ use mathlib.Core.Bool.{Bool, true, false, cond}
 use mathlib.Core.List.{List, map}
 use lib.ListN.{length, take, drop, length-map, length-take}
 use lib.Seq.{length-take-le}
+use Rattle.paper.specs.declared.Refusal.{Refusal}
 use Rattle.paper.specs.Formula.{ℓ}
 use Rattle.entries.specs.Front.{inFront}
-use Rattle.sections.specs.declared.Refusal.{Refusal}
 use Rattle.table.specs.Table.{rowsIn}
 use Rattle.marks.specs.Inside.Chosen.{Marked}
 use Rattle.keys.specs.Inside.Keys.{keysAt}

@@ -2,7 +2,7 @@
 use Prim.Native.Nat.{ℕ, _≤_}
 use native.Mathlib.Omega.{arith}
 use mathlib.Core.Path.{_≡_, refl}
-use Rattle.sections.specs.declared.Refusal.{Refusal}
+use Rattle.paper.specs.declared.Refusal.{Refusal}
 use Rattle.filling.specs.declared.Length.{Length}
 use Rattle.filling.specs.declared.Filled.the-variants as filled
 use Rattle.answers.specs.declared.Counts.{Counts}

@@ -12,7 +12,7 @@ use Rattle.nocturenc.proofs.requests as requests
 use Rattle.nocturenc.proofs.exported as exported
 
 packed-as-it-was : (o : Outcome) {lent left : List ℕ} {n : ℕ} → FillsPacked o lent left n → IsPackedRefusal n → left ≡ lent
-packed-as-it-was (refuses number place) f h = f .left-so
+packed-as-it-was (refuses r) f h = f .left-so
 packed-as-it-was (fills ws) f h = absurd (h (f .read-so .no-refusal))
 
 pub order :

@@ -11,7 +11,7 @@ use crate::requests::transition;
 use answers::Answer;
 use answers::Counts;
 use filling::Filled;
-use sections::Refusal;
+use paper::Refusal;
 
 // A refusal: its number in the top byte, its place in the low 32 bits.
 fn packed_refusal(r: Refusal) -> u64

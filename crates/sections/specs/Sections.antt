@@ -6,18 +6,14 @@ use mathlib.Core.Bool.{Bool, cond, _||_}
 use mathlib.Core.List.{List}
 use lib.ListN.{length, getD, drop}
 use lib.Dec.{ltb, eqb}
-use Rattle.paper.specs.Refusals.{absent, countOutOfRange, entryUnfit, nameNotAbove, readBeyond, readsLeft, rowBroken, tooDeep, wordsFollow}
+use Rattle.paper.specs.Refusals.{refusal, absent, countOutOfRange, entryUnfit, nameNotAbove, readBeyond, readsLeft, rowBroken, tooDeep, wordsFollow}
 use Rattle.paper.specs.Limits.{mostChosen, mostReads, mostRows, mostVariables}
-use Rattle.sections.specs.declared.Refusal.{Refusal}
 use Rattle.sections.specs.declared.Cursor.{Cursor}
 use Rattle.sections.specs.declared.Step.{Step}
 use Rattle.sections.specs.declared.Step.the-variants.{Next, Halt}
 use Rattle.entries.specs.First.{first}
 use Rattle.entries.specs.Entries.{falls, beyond}
 use Rattle.rows.specs.Rows.{breaksRules, takenBefore, isDeep}
-
-abbrev pub refusal : ℕ → ℕ → Refusal
-refusal number place = record { number = number; place = place }
 
 abbrev pub halt : ℕ → ℕ → Step
 halt number place = Halt (refusal number place)

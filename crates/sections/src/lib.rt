@@ -9,6 +9,7 @@ use entries::first_fall;
 use entries::first_unfit;
 use entries::wide;
 use paper::Label;
+use paper::Refusal;
 use paper::limits::MOST_CHOSEN;
 use paper::limits::MOST_DEPTH;
 use paper::limits::MOST_READS;
@@ -23,15 +24,10 @@ use paper::refusals::READS_LEFT;
 use paper::refusals::ROW_BROKEN;
 use paper::refusals::TOO_DEEP;
 use paper::refusals::WORDS_FOLLOW;
+use paper::refusals::refusal_at;
 use rows::depth::first_deep;
 use rows::first_broken;
 use rows::reads_taken;
-
-// A refusal: its number in document 01's table, and its place.
-pub struct Refusal {
-    pub number: u8,
-    pub place: u32,
-}
 
 // A place between two sections: the position of the next count word, how many entries the section before it has, and
 // V, R and N once they are known.
@@ -54,10 +50,7 @@ fn refused(number: u8, place: usize) -> Step
     requires { ⌜ place < 2 ^ 32 ⌝ }
     ensures { λ r. ⌜ r ≡ halt number place ⌝ }
 {
-    Step::Halt(Refusal {
-        number,
-        place: place as u32,
-    })
+    Step::Halt(refusal_at(number, place))
 }
 
 impl Cursor {

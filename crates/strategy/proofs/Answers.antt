@@ -10,6 +10,7 @@ use lib.Dec.{eqb, ltb}
 use lib.ListN.{length, getD, drop, length-append}
 use lib.Seq.{take-at}
 use borrow.Author.Tests.{eqb-false, ltb-false, not-false}
+use Rattle.paper.specs.declared.Refusal.{Refusal}
 use Rattle.paper.specs.Limits.{mostTransitions}
 use Rattle.paper.specs.declared.Label.{Label}
 use Rattle.paper.specs.declared.Variable.{Variable}
@@ -26,7 +27,6 @@ use Rattle.paper.proofs.Labels.{has-mem}
 use Rattle.paper.proofs.Variables.{to-variables}
 use Rattle.paper.proofs.Numbers.{numbers-say}
 use Rattle.table.specs.declared.Layout.{Layout}
-use Rattle.sections.specs.declared.Refusal.{Refusal}
 use Rattle.table.specs.declared.Checked.the-variants.{Sound, Refused}
 use Rattle.entries.specs.First.{first}
 use Rattle.table.specs.Table.{checked, rowsIn, readsIn, chosenIn}
@@ -94,7 +94,7 @@ module _ (rows reads chosen : List ℕ) where
 
 -- A refusal leaves all as it was.
 module _ {rows reads chosen : List ℕ} {l : Layout} {j : Judgement} {r : Judged} where
-  refused-so : {number place : ℕ} (lent : List ℕ) → j ≡ refused number place → r ≡ refusedAt number place → JudgedBy rows reads chosen l lent lent r j
+  refused-so : {x : Refusal} (lent : List ℕ) → j ≡ refused x → r ≡ answer.Refused x → JudgedBy rows reads chosen l lent lent r j
   refused-so lent e q = record { answered = q ∙ sym (ap (asJudged l) e); left-so = sym (ap (λ i. leftAfter rows reads chosen lent (asJudged l i)) e) }
 
 -- The chain, from its end. 13 and 14: the order leaves a cycle, or places all and the transitions are counted.
@@ -188,7 +188,7 @@ judged-whole {words} {lent} {l = l} e j =
     -- an answer's layout is the one that it was given
     same-layout : (j : Judgement) → leftBy (asJudged l j) (λ _. orderIn words l) lent ≡ leftBy (asJudged l j) (orderIn words) lent
     same-layout (accepted v n s t) = refl
-    same-layout (refused number place) = refl
+    same-layout (refused x) = refl
 
 -- the same of the parts as they are lent
 pub judged-lent : {words lent left : List ℕ} {l : Layout} {r : Judged} (e : checked words ≡ Sound l)

@@ -8,6 +8,7 @@ use mathlib.Core.Bool.{Bool, true, false, not, false≢true}
 use mathlib.Core.List.{List, [], _∷_, map, map-map}
 use lib.ListN.{length, getD, length-map}
 use borrow.Author.Tests.{ne-eqb}
+use Rattle.paper.specs.Refusals.{refusal}
 use Rattle.paper.specs.declared.Label.{Label}
 use Rattle.paper.specs.Lists.{those}
 use Rattle.paper.specs.Formula.{ℓ, same, has, Rising, Formula}
@@ -163,7 +164,7 @@ module _ {rows reads chosen : List ℕ} {#V #N : ℕ} (c : Covered rows reads ch
           absurd (omega (arith, many-placed, length-map chosen ℓ))
 
   pub order-refuses : length (ordered rows reads chosen) < length chosen
-      → judgeOrder #V f A ≡ refused 13 (getD chosen (lowestOnCycle rows reads chosen) 0)
+      → judgeOrder #V f A ≡ refused (refusal 13 (getD chosen (lowestOnCycle rows reads chosen) 0))
   unfolding lowestOnCycle
   order-refuses h =
       let (others, e) = offender (onCycle (before f A) A) chosen (isOnCycle rows reads chosen) as-numbered (some-cycle h) in rw e

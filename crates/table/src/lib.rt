@@ -4,8 +4,8 @@ ghost use mathlib.Core.Path.{_≡_};
 ghost use Prim.Native.Nat.{_≤_};
 ghost use Rattle.table.specs.Table.{sections, asChecked, checked};
 ghost use Rattle.paper.specs.Limits.{mostReads, mostRows, mostVariables};
+use paper::Refusal;
 use sections::Cursor;
-use sections::Refusal;
 use sections::Step;
 
 // What sound words hold: the counts V, R, N and S, and the positions of the first read, the first row and the first

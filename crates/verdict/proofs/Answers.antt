@@ -5,6 +5,7 @@ use mathlib.Core.Path.{_≡_, refl, sym, ap}
 use mathlib.Core.Bool.{Bool, true, false, cond}
 use lib.Dec.{ltb}
 use borrow.Author.Tests.{ltb-false, lt-ltb, le-ltb}
+use Rattle.paper.specs.Refusals.{refusal}
 use Rattle.paper.specs.Limits.{mostTransitions}
 use Rattle.paper.specs.Judgement.{Judgement, accepted, refused}
 use Rattle.table.specs.declared.Layout.{Layout}
@@ -24,15 +25,15 @@ transitionsIn (answer.Refused x) = 0
 
 pub accepting : (l m : Layout) (j : Judgement) {t : ℕ} → asJudged l j ≡ acceptedWith m t → (l ≡ m) × (v n s : ℕ) × (j ≡ accepted v n s t)
 accepting l m (accepted v n s t) e = (ap layoutIn e, v, n, s, ap (λ k. accepted v n s k) (ap transitionsIn e))
-accepting l m (refused number place) e = let z : _≡_ {A = ℕ} 0 1 = cc in absurd (omega arith)
+accepting l m (refused r) e = let z : _≡_ {A = ℕ} 0 1 = cc in absurd (omega arith)
 
 -- 14: the count t over the rows stands for the number of keys m
 pub counted-answer : (l : Layout) (v n s m t : ℕ) → ltb mostTransitions t ≡ ltb mostTransitions m → (t ≤ mostTransitions → t ≡ m)
-    → asJudged l (cond (ltb mostTransitions m) (refused 14 0) (accepted v n s m)) ≡ countedAs l t
+    → asJudged l (cond (ltb mostTransitions m) (refused (refusal 14 0)) (accepted v n s m)) ≡ countedAs l t
 unfolding countedAs
 counted-answer l v n s m t past same = rw (← past) (by (ltb mostTransitions t) refl)
   where
-    by : (b : Bool) → ltb mostTransitions t ≡ b → asJudged l (cond b (refused 14 0) (accepted v n s m)) ≡ cond b (refusedAt 14 0) (acceptedWith l t)
+    by : (b : Bool) → ltb mostTransitions t ≡ b → asJudged l (cond b (refused (refusal 14 0)) (accepted v n s m)) ≡ cond b (refusedAt 14 0) (acceptedWith l t)
     by true e = refl
     by false e = ap (acceptedWith l) (sym (same (ltb-false mostTransitions t e)))
 

@@ -1,9 +1,9 @@
 -- The verdict on a table's words: what is known of an accepted table, or a refusal; and what two checks of the proposal find, 10
 -- and 14, which need the rows and no order.
 use Prim.Native.Nat.{ℕ}
+use Rattle.paper.specs.Refusals.{refusal}
 use Rattle.paper.specs.Judgement.{Judgement, accepted, refused}
 use Rattle.table.specs.declared.Layout.{Layout}
-use Rattle.sections.specs.Sections.{refusal}
 use Rattle.verdict.specs.declared.Judged.{Judged}
 use Rattle.verdict.specs.declared.Judged.the-variants as answer
 
@@ -22,4 +22,4 @@ IsRefusal (answer.Refused x) = Unit {0}
 -- a judgement of the formula of words laid out so, as an answer
 abbrev pub asJudged : Layout → Judgement → Judged
 asJudged l (accepted v n s t) = acceptedWith l t
-asJudged l (refused number place) = refusedAt number place
+asJudged l (refused r) = answer.Refused r

@@ -11,12 +11,13 @@ ghost use Rattle.paper.specs.Limits.{mostDepth};
 use keys::keys_of;
 use keys::total_of;
 use paper::Label;
+use paper::Refusal;
 use paper::limits::MOST_DEPTH;
 use paper::limits::MOST_ROWS;
 use paper::limits::MOST_TRANSITIONS;
 use paper::refusals::TOO_MANY;
+use paper::refusals::refusal_at;
 use rows::kind_of;
-use sections::Refusal;
 use table::Layout;
 
 // What is known of an accepted table: its counts and positions, and the number of its transitions.
@@ -35,10 +36,7 @@ pub enum Judged {
 pub fn refused(number: u8, place: u16) -> Judged
     ensures { λ r. ⌜ r ≡ refusedAt number place ⌝ }
 {
-    Judged::Refused(Refusal {
-        number,
-        place: place as u32,
-    })
+    Judged::Refused(refusal_at(number, place as usize))
 }
 
 // The number of the first chosen label that is no candidate, or how many there are.

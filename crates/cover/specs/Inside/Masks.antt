@@ -5,7 +5,7 @@ use mathlib.Core.Bool.{Bool, true, false, cond, not, _&&_, _||_}
 use mathlib.Core.List.{List, [], _∷_}
 use lib.Dec.{eqb, ltb}
 use lib.Bits.{bitAnd, bitOr}
-use Rattle.paper.specs.Refusals.{variableMissed, variableTwice}
+use Rattle.paper.specs.Refusals.{refusal, variableMissed, variableTwice}
 use Rattle.paper.specs.Limits.{mostDepth}
 use Rattle.paper.specs.declared.Variable.{Variable}
 use Rattle.paper.specs.Formula.{𝓋}
@@ -90,6 +90,6 @@ coveringBy (v ∷ others) doubled = Missed v
 
 -- the refusal that a covering gives, or else what follows
 abbrev pub judgementOf : Covering → Judgement → Judgement
-judgementOf (Missed v) next = refused variableMissed (v .0)
-judgementOf (Doubled v) next = refused variableTwice (v .0)
+judgementOf (Missed v) next = refused (refusal variableMissed (v .0))
+judgementOf (Doubled v) next = refused (refusal variableTwice (v .0))
 judgementOf Covered next = next
