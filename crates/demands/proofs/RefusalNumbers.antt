@@ -26,7 +26,7 @@ use Rattle.table.specs.Table as Table
 use Rattle.written.specs.Tables.{formulaIn}
 use Rattle.verdict.specs.declared.Judged.{Judged}
 use Rattle.verdict.specs.declared.Judged.the-variants as judged
-use Rattle.verdict.specs.Verdict.{answerOf}
+use Rattle.verdict.specs.Verdict.{asJudged}
 use Rattle.strategy.specs.Judge.{proposalIn, judgedOf, judgedAs}
 use Rattle.demands.specs.Demands.{JudgeGives}
 
@@ -114,7 +114,7 @@ abbrev pub AnswerGives : Judged → Type 0
 AnswerGives (judged.Accepted a) = Unit {0}
 AnswerGives (judged.Refused x) = JudgeGives (x .number)
 
-answers-give : (l : Layout) (j : Judgement) → JudgementGives j → AnswerGives (answerOf l j)
+answers-give : (l : Layout) (j : Judgement) → JudgementGives j → AnswerGives (asJudged l j)
 answers-give l (accepted v n s t) g = tt
 answers-give l (refused x) g = g
 
@@ -122,7 +122,7 @@ pub judged-gives : (words : List ℕ) → AnswerGives (judgedOf words)
 unfolding judgedOf checked
 judged-gives words = go (sections words) (sections-give words)
   where
-    go : (s : Step) → StepGives s → AnswerGives (judgedAs words (Table.answerOf s))
+    go : (s : Step) → StepGives s → AnswerGives (judgedAs words (Table.asChecked s))
     go (Halt x) g = g
     go (Next c) g =
         let l = Table.layout (c .variables) (c .reads) (c .rows) (c .count) in
