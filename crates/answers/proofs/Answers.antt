@@ -38,7 +38,8 @@ module _ (what : List ℕ → Layout → ℕ → List ℕ) (words : List ℕ) (k
   absent h e = rw (le-leb count k h) (record { answered = e; left-so = refl })
 
   module _ (there : k < count) (n : ℕ) (many : n ≡ length (keyOf words l k)) where
-    pub not-whole : {r : Filled} → (n ≡ l .variables → ⊥) → r ≡ filledOf (refuses (refusal 18 k)) → Fills (ofTransition what words k (length lent) l count) lent lent r
+    pub not-whole : {r : Filled} → (n ≡ l .variables → ⊥) → r ≡ filledOf (refuses (refusal 18 k))
+        → Fills (ofTransition what words k (length lent) l count) lent lent r
     unfolding ofTransition
     not-whole h e = rw (lt-leb count k there, ← many, ne-eqb n (l .variables) h) (record { answered = e; left-so = refl })
 

@@ -54,7 +54,8 @@ module _ (from : List ℕ) (count : ℕ) (lent : List ℕ) where
   copy-ends out i h c = let e : i ≡ count = omega arith in c .stands ∙ ap (λ (n : ℕ). copied from n lent) e
 
 module _ (from lent : List ℕ) (count : ℕ) (there : count ≤ length from) where
-  pub too-short : {r : Filled} → length lent < count → r ≡ filledOf (refuses (refusal 16 count)) → Fills (unlessShort (length lent) (take count from)) lent lent r
+  pub too-short : {r : Filled} → length lent < count → r ≡ filledOf (refuses (refusal 16 count))
+      → Fills (unlessShort (length lent) (take count from)) lent lent r
   too-short h e = rw (length-take-le count from there, lt-ltb (length lent) count h) (record { answered = e; left-so = refl })
 
   pub filled-front : {left : List ℕ} → count ≤ length lent → left ≡ copied from count lent
