@@ -81,7 +81,8 @@ module _ (A : List Label) where
       either : (w : ℕ) → Level A w (branches f) → Level A w cs
           → Alternatives A w (branches f) (keyCountOf A f) (keptAll A (only f)) (keptAt A f) → Alternatives A w cs b N kb
           → Alternatives A w (branches f ++ cs) (joinKeys false (keyCountOf A f) b) (keptAll A (only f) ++ N) (inTurn (numberOf A f) (keptAt A f) kb)
-      either zero lf lc = keyless-alternatives A (branches f) cs (keyCountOf A f) b _ N (keptAt A f) kb (a-branch f .0) (some .0) (a-branch f .1) (some .1) lf lc
+      either zero lf lc =
+          keyless-alternatives A (branches f) cs (keyCountOf A f) b _ N (keptAt A f) kb (a-branch f .0) (some .0) (a-branch f .1) (some .1) lf lc
       either (suc w) lf lc = keyed-alternatives A (branches f) cs (keyCountOf A f) b _ N (keptAt A f) kb w
           λ x y s r. lower-key A p w (labels f) ys rises x y (branch-sub f x s) (later y r) (lf x s) (lc y r)
 

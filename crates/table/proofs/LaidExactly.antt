@@ -15,7 +15,8 @@ use Rattle.sections.specs.Sections.{start, variablesAt, readsAt, rowsAt, strate
 use Rattle.table.specs.Table.{partAt, readsOf, sections, layout, asChecked, checked}
 use Rattle.sections.proofs.Opened.{passed, through}
 use Rattle.table.proofs.Laid.{Laid}
-use Rattle.table.proofs.PassedSections.{afterChosen, NamesPassed, ReadsPassed, RowsPassed, ChosenPassed, names-of, of-names, reads-of, of-reads, rows-of, of-rows, chosen-of, of-chosen}
+use Rattle.table.proofs.PassedSections.{afterChosen, NamesPassed, ReadsPassed, RowsPassed, ChosenPassed}
+use Rattle.table.proofs.PassedSections.{names-of, of-names, reads-of, of-reads, rows-of, of-rows, chosen-of, of-chosen}
 
 module _ (words : List ℕ) where
   end-of : (c d : Cursor) → endAt (length words) c ≡ Next d → (length words ≤ c .at) × (d ≡ c)
