@@ -114,6 +114,7 @@ fn assignments(speaker: &Speaker, table: &[u16], k: usize, out: &mut [u16]) -> u
 /// What is asked of a table: all four requests, with transition numbers below the count and
 /// beyond it, and lent slices of the right length, longer and too short. Up to `most_k`
 /// transitions are asked, all of them if there are no more; with 0 only one, and none beyond.
+/// Of a table without transitions number 0 is asked, which is beyond its count.
 pub fn requests(rng: &mut Rng, table: &[u16], most_k: usize) -> Vec<Request> {
     let mut asked = vec![Request::Judge];
     let Ok(counts) = composed::judge(table) else {
@@ -131,7 +132,7 @@ pub fn requests(rng: &mut Rng, table: &[u16], most_k: usize) -> Vec<Request> {
     let count = counts.transitions;
     let mut numbers: Vec<usize> = (0..count.min(most_k)).collect();
     if most_k == 0 {
-        numbers.push(rng.below(count));
+        numbers.push(rng.below(count.max(1)));
     } else {
         if count > most_k {
             numbers.fill_with(|| rng.below(count));
@@ -160,8 +161,8 @@ fn length(rng: &mut Rng, needed: usize) -> usize {
 }
 
 /// The refusal number in an answer, 0 for accepted.
-pub fn number(word: u64) -> usize {
-    (word >> 56) as usize
+pub fn number(word: u64) -> u8 {
+    (word >> 56) as u8
 }
 
 /// An answer word for people to read; the judge request has its own layout.

@@ -9,12 +9,14 @@
 
 mod archive;
 mod asking;
+mod met;
 mod peer;
 mod rng;
 mod tables;
 mod typed;
 
 use asking::{ask, dispute, number, requests, Request, Speaker};
+use met::Met;
 use peer::definition::Reading;
 use rng::Rng;
 use std::process::ExitCode;
@@ -22,54 +24,41 @@ use std::time::Instant;
 use tables::cases::{self, Case};
 use tables::{damage, edges, extremes, large, many, random, typical, worst, Named, Table};
 
-/// What a group of tables gave: answers to the judge request by refusal number, 0 for accepted,
-/// and how often the other requests gave 15 and 16.
+/// What a group of tables gave: the answers to the judge request, and those to the other requests.
 #[derive(Default)]
 struct Tally {
     tables: u64,
     listed: u64,
     requests: u64,
-    judged: [u64; 20],
-    too_high: u64,
-    too_short: u64,
+    judged: Met,
+    others: Met,
 }
 
 impl Tally {
     fn note(&mut self, request: Request, word: u64) {
-        let number = number(word);
         self.requests += 1;
         match request {
-            Request::Judge => self.judged[number.min(19)] += 1,
-            _ => {
-                self.too_high += (number == 15) as u64;
-                self.too_short += (number == 16) as u64;
-            }
+            Request::Judge => self.judged.note(number(word)),
+            _ => self.others.note(number(word)),
         }
     }
 
     fn line(&self, name: &str) -> String {
-        let mut line = format!(
-            "{name}: {} tables ({} by definition too), {} requests; accepted {}; refused",
-            self.tables, self.listed, self.requests, self.judged[0]
-        );
-        for (number, &count) in self.judged.iter().enumerate().skip(1) {
-            if count > 0 {
-                line.push_str(&format!(" {number}:{count}"));
-            }
-        }
-        line.push_str(&format!("; 15:{} 16:{}", self.too_high, self.too_short));
-        line
+        let (accepted, judged) = (self.judged.count(0), &self.judged);
+        let (too_high, too_short) = (self.others.count(15), self.others.count(16));
+        format!(
+            "{name}: {} tables ({} by definition too), {} requests; accepted {accepted}; \
+             refused{judged}; 15:{too_high} 16:{too_short}",
+            self.tables, self.listed, self.requests
+        )
     }
 
     fn add(&mut self, other: &Tally) {
         self.tables += other.tables;
         self.listed += other.listed;
         self.requests += other.requests;
-        self.too_high += other.too_high;
-        self.too_short += other.too_short;
-        for (sum, more) in self.judged.iter_mut().zip(&other.judged) {
-            *sum += more;
-        }
+        self.judged.add(&other.judged);
+        self.others.add(&other.others);
     }
 }
 
@@ -229,12 +218,8 @@ impl Run {
 
     /// Every refusal that the judge request can give was met, and of the other requests 15 and 16.
     fn all_refusals_met(&self) -> Result<(), String> {
-        let mut met = self.total.judged;
-        (met[15], met[16]) = (self.total.too_high, self.total.too_short);
-        match (1..=16).find(|&number| met[number] == 0) {
-            Some(number) => Err(format!("refusal {number} was never met")),
-            None => Ok(()),
-        }
+        self.total.judged.has_all(1..=14)?;
+        self.total.others.has_all([15, 16])
     }
 }
 

@@ -9,6 +9,8 @@
 
 mod listing;
 #[allow(dead_code)] // The comparison uses all of these files, this program a part.
+mod met;
+#[allow(dead_code)]
 mod peer;
 mod pieces;
 #[allow(dead_code)]
@@ -17,6 +19,7 @@ mod rng;
 mod tables;
 
 use listing::{listing, MOST_BYTES};
+use met::Met;
 use rng::Rng;
 use std::fs::{self, File};
 use std::path::Path;
@@ -57,8 +60,7 @@ struct Run {
     files: u64,
     longest_in: usize,
     longest_out: usize,
-    /// Files by refusal number, 0 for accepted.
-    met: [u64; 18],
+    met: Met,
 }
 
 impl Run {
@@ -92,11 +94,9 @@ impl Run {
                 output.status
             ));
         }
-        let number = match wanted.split_once(' ') {
-            Some(("refused", rest)) => rest.split(' ').next().and_then(|n| n.parse().ok()),
-            _ => Some(0),
-        };
-        self.met[number.unwrap_or(0)] += 1;
+        let refused = wanted.strip_prefix("refused ");
+        let number = refused.and_then(|rest| rest.split(' ').next()?.parse().ok());
+        self.met.note(number.unwrap_or(0));
         self.files += 1;
         self.longest_in = self.longest_in.max(bytes.len());
         self.longest_out = self.longest_out.max(wanted.len());
@@ -244,11 +244,7 @@ impl Run {
 
     /// Every refusal that the lister can give was met, and accepted tables were.
     fn all_met(&self) -> Result<(), String> {
-        let given = |number: &usize| ![15, 16].contains(number);
-        match (0..=17).filter(given).find(|&number| self.met[number] == 0) {
-            Some(number) => Err(format!("refusal {number} was never met")),
-            None => Ok(()),
-        }
+        self.met.has_all((0..=14).chain([17]))
     }
 }
 
@@ -283,7 +279,7 @@ fn main() -> ExitCode {
         files: 0,
         longest_in: 0,
         longest_out: 0,
-        met: [0; 18],
+        met: Met::default(),
     };
     let outcome = examples
         .iter()

@@ -151,11 +151,12 @@ fn all_tables() -> Vec<Named> {
     all
 }
 
-/// The most that any request about any table took, and the request's name.
+/// The most that any request about any table took, and the request's name. The last transition is asked for, or number 0 of none.
 fn most(stack: &mut [u128]) -> Result<(usize, String, usize), String> {
     let (mut most, mut by, mut calls) = (0, String::new(), 0);
     for table in all_tables() {
-        let last = composed::judge(&table.words).map_or(0, |counts| counts.transitions - 1);
+        let last =
+            composed::judge(&table.words).map_or(0, |counts| counts.transitions.saturating_sub(1));
         for request in ["judge", "order", "transition", "assignments"] {
             let (words, bytes) = (vec![0; peer::MOST_CHOSEN], vec![0; peer::MOST_ROWS]);
             let mut call = Call {

@@ -95,12 +95,16 @@ fn judge_and_order(counts: &[usize; 4], order: &[u16]) -> Vec<(Request, Answer)>
     judge.word = judged;
     let mut asked = vec![(Request::Judge, judge)];
     asked.extend([chosen, chosen + 2].map(|len| words(Request::Order { len }, order)));
-    let len = chosen - 1;
-    asked.push(refused(Request::Order { len }, 16, chosen));
-    let (k, len) = (0, rows - 1);
-    asked.push(refused(Request::Transition { k, len }, 16, rows));
-    let len = variables - 1;
-    asked.push(refused(Request::Assignments { k, len }, 16, variables));
+    // Nothing is too short for an empty order, and without transitions 15 comes before 16.
+    if let Some(len) = chosen.checked_sub(1) {
+        asked.push(refused(Request::Order { len }, 16, chosen));
+    }
+    if transitions > 0 {
+        let (k, len) = (0, rows - 1);
+        asked.push(refused(Request::Transition { k, len }, 16, rows));
+        let len = variables - 1;
+        asked.push(refused(Request::Assignments { k, len }, 16, variables));
+    }
     for len in [0, rows] {
         let k = transitions;
         asked.push(refused(Request::Transition { k, len }, 15, k));

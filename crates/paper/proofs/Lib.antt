@@ -18,6 +18,8 @@ pub mod Folds
 pub mod Cover
 pub mod Share
 pub mod KeyLists
+pub mod KeyCounts
+pub mod NumberedJoins
 pub mod Numbers
 pub mod Cases
 pub mod FurtherCases

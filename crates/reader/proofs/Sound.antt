@@ -16,7 +16,8 @@ use Rattle.rows.specs.Rows.{endOf}
 use Rattle.sections.specs.Sections.{start, openAt}
 use Rattle.table.specs.Table.{partAt, rowsIn}
 use Rattle.sections.proofs.Opened.{behind, of-opened}
-use Rattle.table.proofs.Laid.{Laid, accepted}
+use Rattle.table.proofs.Laid.{Laid}
+use Rattle.table.proofs.LaidExactly.{accepted}
 use Rattle.written.proofs.Tables.{understood}
 use Rattle.reader.specs.declared.Found.the-variants.{Here, Absent}
 use Rattle.reader.specs.Reading.{behindRows, rowsBefore, rowOf, rowAt, pastAt}

@@ -90,17 +90,23 @@ module _ (part : List ℕ) (c : Cursor) (low high width : ℕ) where
     pub of-held : (n : ℕ) → Opened part low high width n → first (bad n) n ≡ n → sectionAt ≡ next (behind c width n)
     of-held n o e = rw (of-opened n o) (of-unless number base (bad n) n _ e)
 
--- What the code of a section answers: its opening s gave the cursor d, and the search over the entries stopped at k.
-module _ (part : List ℕ) (c : Cursor) (low high width number base : ℕ) (bad : Cursor → ℕ → Bool) (next : Cursor → Step) where
-  abbrev searched : Step
-  searched = andThen (openAt part c low high width) (λ m. unless number base (bad m) (m .count) (next m))
+-- A section that opened, with the cursor d behind it.
+pub record Opening (part : List ℕ) (c : Cursor) (low high width : ℕ) (d : Cursor) : Type 0 where
+  pub came : openAt part c low high width ≡ Next d
+  pub fits : Opened part low high width (d .count)
 
-  module _ {s : Step} (opening : s ≡ openAt part c low high width) {d : Cursor} (came : s ≡ Next d) {k : ℕ} (lowest : k ≡ first (bad d) (d .count)) where
-    pub some-bad : k < d .count → halt number (base + k) ≡ searched
-    some-bad h = rw (← opening, came, ← lowest, lt-ltb k (d .count) h)
+module _ (part : List ℕ) (c : Cursor) (low high width : ℕ) where
+  pub opened-with : {s : Step} {d : Cursor} → s ≡ openAt part c low high width → s ≡ Next d → Opening part c low high width d
+  opened-with {s} {d} asked told = let e = sym asked ∙ told in record { came = e; fits = opened part c low high width d e .0 }
 
-    pub none-bad : d .count ≤ k → next d ≡ searched
-    none-bad h = rw (← opening, came, ← lowest, le-ltb k (d .count) h)
+-- What the code of a section answers that opened with the cursor d, where the search over its entries stopped at k.
+module _ {part : List ℕ} {c : Cursor} {low high width : ℕ} {d : Cursor} (o : Opening part c low high width d) where
+  module _ (number base : ℕ) (bad : ℕ → Bool) (next : Cursor → Step) {k : ℕ} (lowest : k ≡ first bad (d .count)) where
+    pub some-bad : k < d .count → halt number (base + k) ≡ sectionAt part c low high width number base (λ n. bad) next
+    some-bad h = rw (o .came, ← lowest, lt-ltb k (d .count) h)
+
+    pub none-bad : d .count ≤ k → next d ≡ sectionAt part c low high width number base (λ n. bad) next
+    none-bad h = rw (o .came, ← lowest, le-ltb k (d .count) h)
 
 -- the entries are there, in the list that is lent by `&part[1..]`
 pub entries-there : {part : List ℕ} {low high width n : ℕ} → Opened part low high width n → n * width ≤ length (take (length part - 1) (drop 1 part))

@@ -25,7 +25,7 @@ use Rattle.rows.proofs.Rules.{KindIs, is-FALSE, is-star, is-candidate, is-conju
 use Rattle.written.proofs.RulesWrite.{rules-write-whole}
 use Rattle.rows.proofs.Shaped.{shaped}
 use Rattle.rows.proofs.Taken.{taken-there}
-use Rattle.table.proofs.Laid.{accepted}
+use Rattle.table.proofs.LaidExactly.{accepted}
 use Rattle.written.proofs.Tables.{understood}
 use Rattle.marks.specs.Inside.Chosen.{AllBelow}
 use Rattle.net.specs.Inside.Net.{Chosen, Net}

@@ -21,7 +21,8 @@ use Rattle.written.proofs.WrittenRows.{length-rows, written-write}
 use Rattle.written.proofs.WritesRead.{formula-read}
 use Rattle.written.proofs.WritesKeep.{some-rows, keep-rules, take-reads}
 use Rattle.written.proofs.WrittenDepth.{written-depth}
-use Rattle.table.proofs.Laid.{Laid, accepted, laid}
+use Rattle.table.proofs.Laid.{Laid}
+use Rattle.table.proofs.LaidExactly.{accepted, laid}
 use Rattle.written.proofs.Understood.{understand}
 
 -- what is claimed of the reads of each star is so of all reads

@@ -1,7 +1,7 @@
 -- The answer is that of the sections, and the counts that passed are small.
 use mathlib.Core.Path.{sym, ap, _∙_}
 use Rattle.table.specs.Table.{asChecked, checked}
-use Rattle.table.proofs.Laid.{counts-small}
+use Rattle.table.proofs.LaidExactly.{counts-small}
 use borrow.Author.Needs.{needs}
 use Rattle.table.proofs.check.Statement.{statement}
 use Rattle.table.proofs.check.Tie as tie

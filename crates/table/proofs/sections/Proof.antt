@@ -9,8 +9,8 @@ use Rattle.sections.specs.declared.Step.the-variants.{Next}
 use Rattle.sections.specs.Sections.{start, variablesAt, readsAt, rowsAt, strategyAt}
 use Rattle.table.specs.Table.{partAt, readsOf, sections}
 use Rattle.rows.proofs.Rules.{rest}
-use Rattle.table.proofs.Laid.{NamesPassed, ReadsPassed, RowsPassed, InReach, names-of, reads-of, rows-of, chosen-of}
-use Rattle.table.proofs.Laid.{names-reach, reads-reach, reads-between, between-reads, length-between, rows-reach, chosen-reach}
+use Rattle.table.proofs.PassedSections.{NamesPassed, ReadsPassed, RowsPassed, names-of, reads-of, rows-of, chosen-of}
+use Rattle.table.proofs.Reach.{InReach, names-reach, reads-reach, reads-between, between-reads, length-between, rows-reach, chosen-reach}
 use borrow.Author.Needs.{needs}
 use Rattle.table.proofs.sections.Statement.{statement}
 use Rattle.table.proofs.sections.Tie as tie

@@ -8,13 +8,12 @@ use mathlib.Core.Path.{_≡_, sym, ap, _∙_}
 use lib.ListN.{length, take, drop}
 use lib.Seq.{getD-drop}
 use denote.Ref.{now}
-use Rattle.sections.specs.declared.Step.the-variants.{Next}
 use Rattle.entries.specs.First.{first}
 use Rattle.rows.specs.Rows.{takenBefore, keepsRules, breaksRules, isDeep}
-use Rattle.sections.specs.Sections.{halt, openAt, rowsAt}
+use Rattle.sections.specs.Sections.{halt, rowsAt}
 use Rattle.rows.proofs.Rules.{rest}
 use Rattle.rows.proofs.Depths.{top-deep}
-use Rattle.sections.proofs.Opened.{Opened, opened, entries-there}
+use Rattle.sections.proofs.Opened.{Opening, opened-with, entries-there}
 use Rattle.sections.proofs.ThirdSection.{none-broken, walk-asks, taken-small, some-broken, some-left, some-deep, none-deep}
 use borrow.Author.Needs.{needs}
 use Rattle.sections.proofs.Cursor.rows.Statement.{statement}
@@ -24,11 +23,8 @@ module _ (c : tie.After-opened) where
   abbrev part : List ℕ
   part = now (c .before .before .before .before .before .args .part)
 
-  came : openAt part (c .before .before .before .before .before .args .self) 1 4096 4 ≡ Next (c .opened .given .0 .0)
-  came = sym (c .before .before .«open» .ensures) ∙ c .opened .given .1
-
-  opens : Opened part 1 4096 4 (c .opened .given .0 .0 .count)
-  opens = opened _ _ 1 4096 4 _ came .0
+  opens : Opening part (c .before .before .before .before .before .args .self) 1 4096 4 (c .opened .given .0 .0)
+  opens = opened-with _ _ _ _ _ (c .before .before .«open» .ensures) (c .opened .given .1)
 
   few-taken : (n : ℕ) → takenBefore (drop 1 part) n ≤ 65536 * n
   few-taken n = taken-small _ (λ i. rw getD-drop (c .before .before .before .before .shared-slice-known .given (1 + i) .fits)) n
@@ -58,7 +54,7 @@ module _ (c : tie.After-first-deep) where
   counted = c .before .before .before
 
   lowest-deep : c .first-deep .result .0 ≡ first (isDeep (drop 1 (part (opening (searched counted))))) (opening (searched counted) .opened .given .0 .0 .count)
-  lowest-deep = simp rest at (c .first-deep .ensures ∙ top-deep _ _ _ _ (keep counted 0 (opens (opening (searched counted)) .least)))
+  lowest-deep = simp rest at (c .first-deep .ensures ∙ top-deep _ _ _ _ (keep counted 0 (opens (opening (searched counted)) .fits .least)))
 
 open-requires : tie.Need-open-requires
 open-requires c κs = search needs
@@ -86,7 +82,7 @@ part-rows-end : tie.Need-part-rows-end
 part-rows-end c = search needs
 
 first-broken-requires : tie.Need-first-broken-requires
-first-broken-requires c κs = let o = opens (c .before .before .before) in (omega (arith, entries-there o), omega arith)
+first-broken-requires c κs = let o = opens (c .before .before .before) in (omega (arith, entries-there (o .fits)), omega arith)
 
 wide-requires : tie.Need-wide-requires
 wide-requires c κs = search needs
@@ -98,10 +94,10 @@ returns-2 : tie.Need-returns-2
 returns-2 c =
     let s = c .before .before .before .before in
     c .refused .ensures ∙ ap (halt 6) (c .before .wide .ensures)
-    ∙ sym (some-broken _ _ _ _ (came (opening s)) _ (lowest s) (c .before .before .if1 .taken))
+    ∙ sym (some-broken _ _ _ _ (opens (opening s) .came) _ (lowest s) (c .before .before .if1 .taken))
 
 reads-taken-requires : tie.Need-reads-taken-requires
-reads-taken-requires c κs = let o = opens (c .before .before .before .before .before .before) in (omega (arith, entries-there o), omega arith)
+reads-taken-requires c κs = let o = opens (c .before .before .before .before .before .before) in (omega (arith, entries-there (o .fits)), omega arith)
 
 refused-requires-2 : tie.Need-refused-requires-2
 refused-requires-2 c κs =
@@ -115,13 +111,13 @@ returns-3 c =
     let s = c .before .before .before in
     let f = searched s in
     c .refused2 .ensures
-    ∙ sym (some-left _ _ _ _ (came (opening f)) _ (lowest f) (s .before .if1 .left) _ (taken s) (c .before .if2 .taken))
+    ∙ sym (some-left _ _ _ _ (opens (opening f) .came) _ (lowest f) (s .before .if1 .left) _ (taken s) (c .before .if2 .taken))
 
 first-deep-requires : tie.Need-first-deep-requires
 first-deep-requires c κs =
     let s = c .before .before in
     let o = opens (opening (searched s)) in
-    walk-asks _ _ _ _ (keep s) (omega (arith, entries-there o)) (o .least) (o .most)
+    walk-asks _ _ _ _ (keep s) (omega (arith, entries-there (o .fits))) (o .fits .least) (o .fits .most)
 
 wide-requires-2 : tie.Need-wide-requires-2
 wide-requires-2 c κs = search needs
@@ -135,7 +131,7 @@ returns-4 c =
     let s = counted d in
     let f = searched s in
     c .refused3 .ensures ∙ ap (halt 8) (c .before .wide2 .ensures)
-    ∙ sym (some-deep _ _ _ _ (came (opening f)) _ (lowest f) (s .before .if1 .left) _ (taken s) (d .before .if2 .left) _ (lowest-deep d)
+    ∙ sym (some-deep _ _ _ _ (opens (opening f) .came) _ (lowest f) (s .before .if1 .left) _ (taken s) (d .before .if2 .left) _ (lowest-deep d)
     (c .before .before .if3 .taken))
 
 returns-5 : tie.Need-returns-5
@@ -143,7 +139,7 @@ returns-5 c =
     let d = c .before .before in
     let s = counted d in
     let f = searched s in
-    sym (none-deep _ _ _ _ (came (opening f)) _ (lowest f) (s .before .if1 .left) _ (taken s) (d .before .if2 .left) _ (lowest-deep d) (c .if3 .left))
+    sym (none-deep _ _ _ _ (opens (opening f) .came) _ (lowest f) (s .before .if1 .left) _ (taken s) (d .before .if2 .left) _ (lowest-deep d) (c .if3 .left))
 
 pub rows-spec : {M : Type 1} → statement M
 rows-spec =

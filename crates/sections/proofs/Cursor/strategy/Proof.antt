@@ -5,13 +5,13 @@ use mathlib.Core.Path.{sym, ap, _∙_}
 use denote.Ref.{now}
 use Rattle.sections.specs.Sections.{halt, strategyAt}
 use Rattle.rows.proofs.Rules.{rest}
-use Rattle.sections.proofs.Opened.{Opened, opened, some-bad, none-bad, entries-there}
+use Rattle.sections.proofs.Opened.{Opening, opened-with, some-bad, none-bad, entries-there}
 use borrow.Author.Needs.{needs}
 use Rattle.sections.proofs.Cursor.strategy.Statement.{statement}
 use Rattle.sections.proofs.Cursor.strategy.Tie as tie
 
-opens : (c : tie.After-opened) → Opened (now (c .before .before .before .before .args .part)) 0 4096 1 (c .opened .given .0 .0 .count)
-opens c = opened _ _ 0 4096 1 _ (sym (c .before .before .«open» .ensures) ∙ c .opened .given .1) .0
+opens : (c : tie.After-opened) → let s = c .before .before .before .before .args in Opening (now (s .part)) (s .self) 0 4096 1 (c .opened .given .0 .0)
+opens c = opened-with _ _ _ _ _ (c .before .before .«open» .ensures) (c .opened .given .1)
 
 open-requires : tie.Need-open-requires
 open-requires c κs = search needs
@@ -36,7 +36,7 @@ part-first-unfit-end : tie.Need-part-first-unfit-end
 part-first-unfit-end c = search needs
 
 first-unfit-requires : tie.Need-first-unfit-requires
-first-unfit-requires c κs = let o = opens (c .before .before) in omega (arith, entries-there o)
+first-unfit-requires c κs = let o = opens (c .before .before) in omega (arith, entries-there (o .fits))
 
 refused-requires : tie.Need-refused-requires
 refused-requires c κs = let o = opens (c .before .before .before .before) in omega arith
@@ -44,17 +44,12 @@ refused-requires c κs = let o = opens (c .before .before .before .before) in om
 returns-2 : tie.Need-returns-2
 unfolding strategyAt
 returns-2 c =
-    let s = c .before .before .before .before .before in
-    let k = simp rest at (c .before .before .first-unfit .ensures) in
-    c .refused .ensures ∙ ap (halt 9) (sym (zero-add _))
-    ∙ some-bad _ _ _ _ _ _ _ _ _ (s .before .before .«open» .ensures) (s .opened .given .1) k (c .before .if1 .taken)
+    let o = opens (c .before .before .before .before .before) in
+    c .refused .ensures ∙ ap (halt 9) (sym (zero-add _)) ∙ some-bad o _ _ _ _ (simp rest at (c .before .before .first-unfit .ensures)) (c .before .if1 .taken)
 
 returns-3 : tie.Need-returns-3
 unfolding strategyAt
-returns-3 c =
-    let s = c .before .before .before .before in
-    let k = simp rest at (c .before .first-unfit .ensures) in
-    none-bad _ _ _ _ _ _ _ _ _ (s .before .before .«open» .ensures) (s .opened .given .1) k (c .if1 .left)
+returns-3 c = none-bad (opens (c .before .before .before .before)) _ _ _ _ (simp rest at (c .before .first-unfit .ensures)) (c .if1 .left)
 
 pub strategy-spec : {M : Type 1} → statement M
 strategy-spec =
