@@ -12,7 +12,7 @@ use Rattle.rows.specs.Rows.{kindOf, argOf, fromOf}
 module _ (rows : List ℕ) where
   -- the last row that is over both i and j, which are two
   unfoldable pub overBoth : ℕ → ℕ → ℕ
-  overBoth i j = lastOf (λ a. isUnder a i && isUnder a j) 0 i
+  overBoth i j = lastOf (λ a. isUnder rows a i && isUnder rows a j) 0 i
 
   -- two candidates share a branch: they are one, or the last row over both is a conjunction
   unfoldable pub shareBranchIn : ℕ → ℕ → Bool
@@ -25,7 +25,7 @@ module _ (rows : List ℕ) where
 
     -- the star of a guard around row i reads v
     unfoldable pub around : ℕ → ℕ → Bool
-    around i v = anyOf (λ a. isGuarded a i && starReads (a + 1) v) (upTo i)
+    around i v = anyOf (λ a. isGuarded rows a i && starReads (a + 1) v) (upTo i)
 
     -- v is frozen at the candidate in row i: its own star reads it, or that of a guard around it
     unfoldable pub isFrozen : ℕ → ℕ → Bool
