@@ -13,7 +13,7 @@ ghost use Rattle.paper.specs.Limits.{mostRows, slots};
 use entries::wide;
 use net::NET_LENGTH;
 use net::clear_of;
-use net::first_of;
+use net::first_with;
 use net::guard_of;
 use net::next_of;
 use paper::Label;
@@ -22,14 +22,14 @@ use paper::limits::SLOTS;
 use rows::arg_of;
 use rows::from_of;
 
-// A place that a finger points to: a star (label 0 for none), its next read, and the next number of the read before.
+// A spot that a finger points to: a star (label 0 for none), its next read, and the next index of the read before.
 pub struct Spot {
     pub star: Label,
     pub read: usize,
     pub next: usize,
 }
 
-// What is known after a look at a number: whether it calls, that is, is open and shares a branch with the one at hand; and
+// What is known after a look at an index: whether it calls, that is, is open and shares a branch with the one at hand; and
 // labels, from `from` up to `to`, that share no branch with it.
 pub struct Seen {
     pub hit: bool,
@@ -37,10 +37,10 @@ pub struct Seen {
     pub to: u16,
 }
 
-// A finger, and the number there, or how many there are where it has run out.
-pub struct Found {
+// A finger moved on, and the index there, or how many there are where it has run out.
+pub struct Moved {
     pub finger: u64,
-    pub number: usize,
+    pub index: usize,
 }
 
 // One past the last read of a star.
@@ -51,7 +51,7 @@ pub fn stop_of(rows: &[u16], star: Label) -> usize
     wide(from_of(rows, star)) + wide(arg_of(rows, star))
 }
 
-// The place after p, which has a star.
+// The spot after p, which has a star.
 fn onward(
     rows: &[u16],
     reads: &[u16],
@@ -80,7 +80,7 @@ fn onward(
         return Spot {
             star: star,
             read: read + 1,
-            next: first_of(net, v),
+            next: first_with(net, v),
         };
     }
     let guard = guard_of(net, star);
@@ -102,7 +102,7 @@ fn is_outside(mark: &[u16; SLOTS], b: usize, i: usize) -> bool
     wide(mark[i]) < b + 2
 }
 
-// A look at an open number k. Labels that are known to share no branch with that of j are not asked about again.
+// A look at an open index k. Labels that are known to share no branch with that of j are not asked about again.
 fn look_at(
     rows: &[u16],
     chosen: &[u16],
@@ -136,7 +136,7 @@ fn look_at(
     }
 }
 
-// A look at k, which may be no number.
+// A look at k, which may be no index.
 fn look(
     rows: &[u16],
     chosen: &[u16],
@@ -165,7 +165,7 @@ fn look(
     }
 }
 
-// A place as a finger, and back.
+// A spot as a finger, and back.
 fn pack(p: Spot) -> u64
     requires { ⌜ (p .read < 65536) × (p .next < 65536) ⌝ }
     ensures { λ r. ⌜ r ≡ packed (p .star .0) (p .read) (p .next) ⌝ }
@@ -186,7 +186,7 @@ fn spot_of(f: u64) -> Spot
     }
 }
 
-// The finger of j moved on from `finger` to the first place whose number is before j and is new or on the path below
+// The finger of j moved on from `finger` to the first spot whose index is before j and is new or on the path below
 // position b, or to 0.
 pub fn seek(
     rows: &[u16],
@@ -198,7 +198,7 @@ pub fn seek(
     b: usize,
     j: usize,
     finger: u64,
-) -> Found
+) -> Moved
     requires { ⌜ Ready (now rows) (now reads) (now chosen) (now net) n × Seekable (graphOf (now rows) (now reads) (now chosen) n) b j finger ⌝ }
     ensures { λ r. ⌜ Answered (now (rows .entry)) (now (reads .entry)) (now (chosen .entry)) n (outside (now (mark .entry)) b) j finger r ⌝ }
 {
@@ -211,20 +211,20 @@ pub fn seek(
     while 0 < p.star.0 {
         seen = look(rows, chosen, net, n, mark, b, p.next, j, seen);
         if seen.hit {
-            return Found {
+            return Moved {
                 finger: pack(p),
-                number: p.next,
+                index: p.next,
             };
         }
         p = onward(rows, reads, chosen, net, n, p);
     }
-    Found {
+    Moved {
         finger: 0,
-        number: chosen.len(),
+        index: chosen.len(),
     }
 }
 
-// Puts every finger before all that its number's own star reads; words beyond them stay.
+// Puts every finger before all that its index's own star reads; words beyond them stay.
 pub fn start(rows: &[u16], chosen: &[u16], n: u16, finger: &mut [u64; SLOTS])
     requires { ⌜ Chosen (now rows) (now chosen) n × (length (now finger) ≡ slots) ⌝ }
     ensures { λ _. ⌜ AtStart (now (rows .entry)) (now (chosen .entry)) (length (now (chosen .entry))) (now (finger .entry)) (now (finger .exit)) ⌝ }

@@ -43,7 +43,7 @@ pub fn guard_of(net: &[u16; NET_LENGTH], at: Label) -> Label
     Label(net[GUARDS_FROM + i])
 }
 
-// The number of the next chosen label with the variable of the k-th.
+// The index of the next chosen label with the variable of the k-th.
 pub fn next_of(net: &[u16; NET_LENGTH], k: usize) -> usize
     requires { ⌜ k < slots ⌝ }
     ensures { λ r. ⌜ r ≡ getD (now (net .entry)) (nextsFrom + k) 0 ⌝ }
@@ -51,8 +51,8 @@ pub fn next_of(net: &[u16; NET_LENGTH], k: usize) -> usize
     wide(net[NEXTS_FROM + k])
 }
 
-// The number of the first chosen label of a variable.
-pub fn first_of(net: &[u16; NET_LENGTH], v: Variable) -> usize
+// The index of the first chosen label of a variable.
+pub fn first_with(net: &[u16; NET_LENGTH], v: Variable) -> usize
     requires { ⌜ v .0 < mostVariables ⌝ }
     ensures { λ r. ⌜ r ≡ getD (now (net .entry)) (firstsFrom + v .0) 0 ⌝ }
 {

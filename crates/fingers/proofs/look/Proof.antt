@@ -1,4 +1,4 @@
--- A number that is there and open is looked at; no other calls.
+-- An index that is there and open is looked at; no other calls.
 use mathlib.Core.Path.{sym, _∙_}
 use Rattle.fingers.proofs.Looking.{look-open, look-shut, look-past}
 use borrow.Author.Needs.{needs}

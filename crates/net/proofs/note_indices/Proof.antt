@@ -1,4 +1,4 @@
--- The chains of chosen labels are noted from the last label down: those from number k on are linked.
+-- The chains of chosen labels are noted from the last label down: those from index k on are linked.
 use Prim.Native.Nat.{_-_, _<_, _≤_}
 use native.Mathlib.Omega.{arith}
 use mathlib.Core.Path.{_≡_, _∙_}
