@@ -33,8 +33,8 @@ pub struct Spot {
 // labels, from `from` up to `to`, that share no branch with it.
 pub struct Seen {
     pub hit: bool,
-    pub from: u16,
-    pub to: u16,
+    pub from: Label,
+    pub to: Label,
 }
 
 // A finger moved on, and the index there, or how many there are where it has run out.
@@ -113,26 +113,28 @@ fn look_at(
     seen: Seen,
 ) -> Seen
     requires { ⌜ Chosen (now rows) (now chosen) n × Net (now rows) (now chosen) n (now net) × (k < length (now chosen))
-        × (j < length (now chosen)) × Apart (now rows) (now chosen) j (seen .from) (seen .to) ⌝ }
+        × (j < length (now chosen)) × Apart (now rows) (now chosen) j (seen .from .0) (seen .to .0) ⌝ }
     ensures { λ r. ⌜ Looked (now (rows .entry))
-        (now (chosen .entry)) (shareBranchIn (now (rows .entry)) (getD (now (chosen .entry)) k 0) (getD (now (chosen .entry)) j 0)) j (r .from) (r .to)
+        (now (chosen .entry)) (shareBranchIn (now (rows .entry)) (getD (now (chosen .entry)) k 0) (getD (now (chosen .entry)) j 0)) j (r .from .0) (r .to .0)
         (r .hit) ⌝ }
 {
     let i = Label(chosen[k]);
-    if seen.from <= i.0 {
-        if i.0 < seen.to {
+    let from = seen.from;
+    let to = seen.to;
+    if from.0 <= i.0 {
+        if i.0 < to.0 {
             return Seen {
                 hit: false,
-                from: seen.from,
-                to: seen.to,
+                from: from,
+                to: to,
             };
         }
     }
-    let to = clear_of(rows, net, n, i, Label(chosen[j]));
+    let clear = clear_of(rows, net, n, i, Label(chosen[j]));
     Seen {
-        hit: to.0 == i.0,
-        from: i.0,
-        to: to.0,
+        hit: clear.0 == i.0,
+        from: i,
+        to: clear,
     }
 }
 
@@ -149,10 +151,12 @@ fn look(
     seen: Seen,
 ) -> Seen
     requires { ⌜ Chosen (now rows) (now chosen) n × Net (now rows) (now chosen) n (now net) × (b < slots) × (j < length (now chosen))
-        × Apart (now rows) (now chosen) j (seen .from) (seen .to) ⌝ }
+        × Apart (now rows) (now chosen) j (seen .from .0) (seen .to .0) ⌝ }
     ensures { λ r. ⌜ Looked (now (rows .entry))
-        (now (chosen .entry)) (calls (now (rows .entry)) (now (chosen .entry)) (outside (now (mark .entry)) b) k j) j (r .from) (r .to) (r .hit) ⌝ }
+        (now (chosen .entry)) (calls (now (rows .entry)) (now (chosen .entry)) (outside (now (mark .entry)) b) k j) j (r .from .0) (r .to .0) (r .hit) ⌝ }
 {
+    let from = seen.from;
+    let to = seen.to;
     if k < chosen.len() {
         if is_outside(mark, b, k) {
             return look_at(rows, chosen, net, n, k, j, seen);
@@ -160,8 +164,8 @@ fn look(
     }
     Seen {
         hit: false,
-        from: seen.from,
-        to: seen.to,
+        from: from,
+        to: to,
     }
 }
 
@@ -205,8 +209,8 @@ pub fn seek(
     let mut p = spot_of(finger);
     let mut seen = Seen {
         hit: false,
-        from: 0,
-        to: 0,
+        from: Label(0),
+        to: Label(0),
     };
     while 0 < p.star.0 {
         seen = look(rows, chosen, net, n, mark, b, p.next, j, seen);

@@ -16,7 +16,7 @@ use rows::arg_of;
 use rows::end_of;
 use rows::kind_of;
 
-// Where the parts of a net begin, as specs/Net.antt has them, and how many words it has.
+// Where the parts of a net begin, as specs/Inside/Net.antt has them, and how many words it has.
 const GUARDS_FROM: usize = 4096;
 
 const NEXTS_FROM: usize = 8192;
@@ -152,9 +152,10 @@ fn note_indices(rows: &[u16], chosen: &[u16], n: u16, net: &mut [u16; NET_LENGTH
     let mut k = chosen.len();
     while 0 < k {
         k -= 1;
-        let v = wide(arg_of(rows, Label(chosen[k])));
-        net[NEXTS_FROM + k] = net[FIRSTS_FROM + v];
-        net[FIRSTS_FROM + v] = k as u16;
+        let v = Variable(arg_of(rows, Label(chosen[k])));
+        let first = FIRSTS_FROM + wide(v.0);
+        net[NEXTS_FROM + k] = net[first];
+        net[first] = k as u16;
     }
 }
 

@@ -13,7 +13,7 @@ use Rattle.fingers.proofs.seek.Tie as tie
 abbrev Inv-loop : tie.InvT-loop
 Inv-loop rows reads chosen net n mark b j finger p₀ seen₀ p seen =
     Sought rows reads chosen n (outside mark b) j (finger / 4294967296) (finger / 65536 % 65536) (finger % 65536) (p .star .0) (p .read) (p .next)
-    × Apart rows chosen j (seen .from) (seen .to)
+    × Apart rows chosen j (seen .from .0) (seen .to .0)
 
 abbrev μ-loop : tie.MeasureT-loop
 μ-loop rows reads chosen net n mark b j finger p₀ seen₀ p seen = ahead rows chosen (p .star .0) (p .read) (p .next)
