@@ -1,4 +1,4 @@
--- The search for the lowest missed and the lowest doubled variable, a block of 64 variables a turn: what one block's words say
+-- The search for the lowest missed and the lowest doubled variable, a block of 64 variables a turn: what one block's masks say
 -- of its variables, and how the lowest below m + v comes from the lowest below v and the lowest of the m after that.
 use Prim.Native.Nat.{ℕ, zero, suc, _+_, _-_, _*_, _/_, _%_, _<_, _≤_, min}
 use native.Mathlib.Nat.{add-zero, add-suc, div-add-mod', mod-lt, le-refl}

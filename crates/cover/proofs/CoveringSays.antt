@@ -1,5 +1,5 @@
--- What `covering_of` gives is what document 01 says of branches (refusals 11 and 12). Bit b of a block's words is the paper's
--- cover of variable 64 * block + b: to take bit b keeps leaves, units and joins, so it carries the words' reading to the cover's.
+-- What `covering_of` gives is what document 01 says of branches (refusals 11 and 12). Bit b of a block's masks is the paper's
+-- cover of variable 64 * block + b: to take bit b keeps leaves, units and joins, so it carries the masks' fold to the cover's.
 -- The covers say which variables are missed and which are doubled; the lowest of either is the first of its list.
 use Prim.Native.Nat.{ℕ, zero, suc, _+_, _*_, _/_, _%_, _^_, _<_}
 use native.Mathlib.Nat.{div-add-mod', mod-lt, le-refl}
@@ -84,7 +84,7 @@ module _ (b : ℕ) (h : b < 64) where
           ∙ sym (ne-eqb (64 * block + b) v λ p. eqb-false (v / 64) block e (omega (arith, div-add-mod' v 64, mod-lt v {m = 64} (omega arith))))
       by false false e = zero-bit b
 
-  -- bit b of a block's words is the cover of variable 64 * block + b
+  -- bit b of a block's masks is the cover of variable 64 * block + b
   module _ {A : List Label} {marks : List ℕ} (marked : Marked A marks) (block : ℕ) where
     chosen-bit : (l : Label) (v : Variable) → l .0 < 4096 → bitAt (maskOf marks block (l .0) (v .0)) b ≡ (has A l && alike (𝓋 (64 * block + b)) v)
     chosen-bit l v g = rw (← marked .marks-are (l .0) g) (mask-bit marks block (l .0) (v .0))
@@ -154,7 +154,7 @@ refuse-by [] [] next = refl
 refuse-by [] (y ∷ ys) next = refl
 refuse-by (x ∷ xs) ys next = refl
 
--- Rows that write a formula whose labels have marks, and the marks of A: bit b of a block's words is the cover of its variable.
+-- Rows that write a formula whose labels have marks, and the marks of A: bit b of a block's masks is the cover of its variable.
 pub masks-say : (rows reads : List ℕ) (left i : ℕ) {f : Formula} → f ≡ formulaAt rows reads left i → {A : List Label} {marks : List ℕ}
     → Marked A marks → ((l : Label) → List·Memᴰ l (labels f) → l .0 < 4096) → (block b : ℕ) → b < 64
     → coverAt b (masksAt rows marks block left i) ≡ coverOf A (𝓋 (64 * block + b)) f

@@ -4,7 +4,7 @@ ghost use mathlib.Core.Path.{_≡_};
 ghost use Prim.Native.Nat.{_+_, _≤_, _<_, min};
 ghost use Rattle.entries.specs.First.{first};
 ghost use Rattle.rows.specs.Inside.Walk.{Walkable};
-ghost use Rattle.cover.specs.Inside.Masks.{unitMasks, joinMasks, leafMasks, maskOf, masksAt, bitAt, further, coveringOf};
+ghost use Rattle.cover.specs.Inside.Masks.{nothingChosen, unitMasks, joinMasks, leafMasks, maskOf, masksAt, bitAt, further, coveringOf};
 ghost use Rattle.paper.specs.Limits.{mostRows};
 use marks::is_marked;
 use paper::Label;
@@ -31,6 +31,18 @@ pub enum Covering {
     Missed(Variable),
     Doubled(Variable),
     Covered,
+}
+
+// One branch with no chosen label.
+fn nothing_chosen() -> Masks
+    ensures { λ r. ⌜ r ≡ nothingChosen ⌝ }
+{
+    Masks {
+        live: true,
+        always: 0,
+        ever: 0,
+        twice: 0,
+    }
 }
 
 // What a conjunction starts from, one branch with nothing on it, and any other join, no branch.
@@ -99,12 +111,7 @@ fn leaf_of(marks: &[u8; MOST_ROWS], block: u16, at: Label, v: Variable) -> Masks
             };
         }
     }
-    Masks {
-        live: true,
-        always: 0,
-        ever: 0,
-        twice: 0,
-    }
+    nothing_chosen()
 }
 
 // The masks of the formula at a row, `left` levels deep at most, for the variables of a block.
@@ -120,12 +127,12 @@ fn masks_of(
     ensures { λ r. ⌜ r ≡ masksAt (now (rows .entry)) (now (marks .entry)) block left (at .0) ⌝ }
 {
     if left == 0 {
-        return unit_of(true);
+        return nothing_chosen();
     }
     let kind = kind_of(rows, at);
     match kind {
-        0 => unit_of(true),
-        1 => unit_of(true),
+        0 => nothing_chosen(),
+        1 => nothing_chosen(),
         2 => leaf_of(marks, block, at, Variable(arg_of(rows, at))),
         3..=6 => {
             let conj = kind == 3;
@@ -139,7 +146,7 @@ fn masks_of(
             }
             acc
         }
-        7..=65535 => unit_of(true),
+        7..=65535 => nothing_chosen(),
     }
 }
 

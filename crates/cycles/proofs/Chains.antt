@@ -1,4 +1,4 @@
--- Chains as data, and as the test `leads` finds them: two numbers that lead to one another are on a cycle, and one on a
+-- Chains as data, and as the test `leads` finds them: two indices that lead to one another are on a cycle, and one on a
 -- cycle has a last step back to itself.
 use Prim.Native.Nat.{ℕ, _<_}
 use mathlib.Core.Path.{_≡_, refl, sym, subst}
@@ -65,7 +65,7 @@ module _ (g : Graph) where
   lead-trans : (i k j : ℕ) → k < g .size → lead i k ≡ true → lead k j ≡ true → lead i j ≡ true
   lead-trans i k j h = leads-trans (g .before) (upTo (g .size)) i k j (in-upTo (g .size) k h)
 
-  -- a chain between two numbers is found by the test
+  -- a chain between two indices is found by the test
   chain-leads : {i j : ℕ} → Trail g i j → (i ≡ j) ⊎ (lead i j ≡ true)
   chain-leads here = inl refl
   chain-leads {i} {j} (step {k = k} h e s) = go (begins s) (chain-leads s)
@@ -75,7 +75,7 @@ module _ (g : Graph) where
       go (inl p) (inr q) = inr (subst (λ z. lead i z ≡ true) p (lead-step i k e))
       go (inr l) (inr q) = inr (lead-trans i k j l (lead-step i k e) q)
 
-  -- two numbers that lead to one another are on a cycle; so is one that is before itself
+  -- two indices that lead to one another are on a cycle; so is one that is before itself
   pub ring-of : (i j : ℕ) → j < g .size → (i ≡ j → ⊥) → Trail g i j → Trail g j i → isOnRing g i ≡ true
   unfolding isOnRing
   ring-of i j h d s t =

@@ -1,4 +1,4 @@
--- Whether a number is before itself, star after star from its own outwards: what lies from the first read of a star on is
+-- Whether an index is before itself, star after star from its own outwards: what lies from the first read of a star on is
 -- what the star reads, and what lies from the first read of the star around it on.
 use Prim.Native.Nat.{ℕ, _+_, _<_, _≤_}
 use native.Mathlib.Omega.{arith}
@@ -19,25 +19,25 @@ use Rattle.fingers.proofs.Guards.{the-guard}
 use Rattle.fingers.proofs.GoesOn.{Part, chained, readLater, readAround, parts, joins, some-star, stop-in, after-star, reads-none}
 use Rattle.fingers.proofs.Seeking.{own-in, own-star, from-in, all-frozen}
 
--- a number is before itself where its own variable is frozen at it
+-- an index is before itself where its own variable is frozen at it
 prior-itself : (rows reads chosen : List ℕ) (j : ℕ) → prior rows reads chosen j j ≡ isFrozen rows reads (getD chosen j 0) (variableOf rows chosen j)
 unfolding prior shareBranchIn
 prior-itself rows reads chosen j =
     let l = getD chosen j 0 in
     rw (eq-eqb l l refl) (and-true (isFrozen rows reads l (variableOf rows chosen j)))
 
--- the star around a star: a place, before all that it reads
+-- the star around a star: a spot, before all that it reads
 module _ (rows reads chosen net : List ℕ) (#N : ℕ) (ready : Ready rows reads chosen net #N) (s : ℕ)
     (P : IsSpot rows chosen #N s (fromOf rows s) (length chosen)) (h : 0 < s) where
   outer : After rows reads chosen #N s (stopOf rows s) (length chosen) (getD net (guardsFrom + s) 0) (fromOf rows (getD net (guardsFrom + s) 0)) (length chosen)
   outer = after-star rows reads chosen net #N ready s (stopOf rows s) (length chosen)
-      (record { star = P .star; kind = P .kind; read = λ _. let z = stop in omega (arith, ready .few); number = omega arith }) h (omega arith) (omega arith)
+      (record { star = P .star; kind = P .kind; read = λ _. let z = stop in omega (arith, ready .few); index = omega arith }) h (omega arith) (omega arith)
     where
       stop : stopOf rows s ≤ length reads
       stop = stop-in rows reads chosen net #N ready s (fromOf rows s) (length chosen) P h
 
-  pub outer-place : IsSpot rows chosen #N (getD net (guardsFrom + s) 0) (fromOf rows (getD net (guardsFrom + s) 0)) (length chosen)
-  outer-place = outer .place
+  pub outer-spot : IsSpot rows chosen #N (getD net (guardsFrom + s) 0) (fromOf rows (getD net (guardsFrom + s) 0)) (length chosen)
+  outer-spot = outer .spot
 
   pub outer-lower : getD net (guardsFrom + s) 0 < s
   outer-lower =
@@ -79,12 +79,12 @@ module _ (rows reads chosen : List ℕ) (j : ℕ) where
 
   -- the own star of j
   module _ (net : List ℕ) (#N : ℕ) (ready : Ready rows reads chosen net #N) (hj : j < length chosen) where
-    pub own-place : IsSpot rows chosen #N (getD chosen j 0 + 1) (fromOf rows (getD chosen j 0 + 1)) (length chosen)
-    own-place = record {
+    pub own-spot : IsSpot rows chosen #N (getD chosen j 0 + 1) (fromOf rows (getD chosen j 0 + 1)) (length chosen)
+    own-spot = record {
       star = own-in rows reads chosen #N net ready j hj;
       kind = λ _. own-star rows reads chosen #N net ready j hj;
       read = λ _. from-in rows reads chosen #N net ready j hj;
-      number = omega arith;
+      index = omega arith;
     }
 
     pub below-own : below (getD chosen j 0 + 1) ≡ prior rows reads chosen j j

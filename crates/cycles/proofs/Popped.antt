@@ -1,4 +1,4 @@
--- The last segment is done: its numbers lead to one another and nothing else that is not done leads to them, so they are on
+-- The last segment is done: its indices lead to one another and nothing else that is not done leads to them, so they are on
 -- a cycle if they are two or more, and a single one only if it is before itself.
 use Prim.Native.Nat.{ℕ, zero, suc, _+_, _-_, _<_, _≤_}
 use native.Mathlib.Omega.{arith}
@@ -54,7 +54,7 @@ module _ (g : Graph) (mark stack bound finger : List ℕ) (len top at : ℕ) (P 
   pub grown : Grown g mark mark′
   grown i hi e = sym (frees i hi) ∙ e
 
-  -- what is before a number of the segment is done, or in it
+  -- what is before an index of the segment is done, or in it
   inward : (j : ℕ) → j < g .size → base bound top + 2 ≤ getD mark j 0 → (i : ℕ) → i < g .size → g .before i j ≡ true → (getD mark i 0 ≡ 1 → ⊥)
       → base bound top + 2 ≤ getD mark i 0
   inward j hj l i hi r d =
@@ -95,17 +95,17 @@ module _ (g : Graph) (mark stack bound finger : List ℕ) (len top at : ℕ) (P 
     spent = λ p hp hl. absurd (omega arith);
   }
     where
-      -- k segments have k numbers at least
+      -- k segments have k indices at least
       under-all : (k : ℕ) → k < top → k ≤ getD bound k 0
       under-all zero hk = omega arith
       under-all (suc k) hk = let z = under-all k (omega arith) in let r = P .rising k (suc k) (omega arith) hk in omega arith
 
-  -- what leads to a number that is done is done
+  -- what leads to an index that is done is done
   done-back : {i x : ℕ} → Trail g i x → x < g .size → getD mark x 0 ≡ 1 → (i < g .size) × (getD mark i 0 ≡ 1)
   done-back here hx e = (hx, e)
   done-back (step hi r s) hx e = let k = done-back s hx e in (hi, P .closed _ (k .0) (k .1) _ hi r)
 
-  -- two numbers of the segment differ where their positions do
+  -- two indices of the segment differ where their positions do
   apart : (p q : ℕ) → p < len → q < len → (p ≡ q → ⊥) → getD stack p 0 ≡ getD stack q 0 → ⊥
   apart p q hp hq d e = let a = P .on p hp .1 in let b = P .on q hq .1 in d (omega (arith, ap (λ (z : ℕ). getD mark z 0) e))
 
@@ -120,7 +120,7 @@ module _ (g : Graph) (mark stack bound finger : List ℕ) (len top at : ℕ) (P 
       by-eq p (base bound top) (λ e. ring-with p (base bound top + 1) hp lp m (omega arith) (λ q. omega arith))
       (λ d. ring-with p (base bound top) hp lp b-in (omega arith) d)
 
-  -- a single number of a segment is on a cycle only if it is before itself
+  -- a single index of a segment is on a cycle only if it is before itself
   alone : (best : ℕ) → Best g mark best → len ≤ base bound top + 1 → (i : ℕ) → i < g .size → base bound top + 2 ≤ getD mark i 0 → (getD mark i 0 ≡ 1 → ⊥)
       → isOnRing g i ≡ true → best ≤ i
   alone best B m i hi l d y =

@@ -38,8 +38,8 @@ module _ (g : Graph) (mark stack bound finger : List ℕ) (len top at : ℕ) (P 
   pub bound-in : (base bound top < len) × (len ≤ g .size)
   bound-in = (P .low (top - 1) (omega arith), omega (arith, P .room))
 
-  pub number-in : base bound top < at → getD stack (at - 1) 0 < g .size
-  number-in u = P .on (at - 1) (omega (arith, P .upto)) .0
+  pub index-in : base bound top < at → getD stack (at - 1) 0 < g .size
+  index-in u = P .on (at - 1) (omega (arith, P .upto)) .0
 
   pub two-or-more : (f : ℕ) → outside mark (base bound top) f ≡ true → (getD mark f 0 ≡ 0 → ⊥) → 2 ≤ getD mark f 0
   two-or-more f e d = two-up (getD mark f 0) d (outside-yes mark (base bound top) f e .0)
@@ -64,7 +64,7 @@ module _ (g : Graph) (mark stack bound finger : List ℕ) (len top at : ℕ) (P 
       turned : Walked g mark stack bound finger′ len top at
       turned = turn g mark stack bound finger len top at P h u f l x
 
-      -- the new number leads to all of the path
+      -- the new index leads to all of the path
       down : l < g .size → (p : ℕ) → p < len → Trail g l (getD stack p 0)
       down hl p hp = step hl (x .hit hl .1) (leads-all g mark stack bound finger len top at P h u p hp)
 
@@ -73,7 +73,7 @@ module _ (g : Graph) (mark stack bound finger : List ℕ) (len top at : ℕ) (P 
       step-back e = record {
         path = back g mark stack bound finger′ len top at turned h u
             (subst (λ z. (i : ℕ) → i < g .size → g .passed (getD stack (at - 1) 0) z i ≡ true)
-            (sym (getD-set-same finger (getD stack (at - 1) 0) f 0 (let z = number-in u in omega (arith, P .small, P .fingers)))) (x .out e));
+            (sym (getD-set-same finger (getD stack (at - 1) 0) f 0 (let z = index-in u in omega (arith, P .small, P .fingers)))) (x .out e));
         best-so-far = B;
         grown = λ i hi e. e;
         less = omega arith;
@@ -177,7 +177,7 @@ module _ (g : Graph) (root : ℕ) (mark stack bound finger : List ℕ) (P : Walk
   unfolding free
   explore-not best B d = record { path = P; best-so-far = B; grown = λ i hi e. e; taken = ne-eqb (getD mark root 0) 0 d }
 
--- at the start, best is the lowest number that is before itself
+-- at the start, best is the lowest index that is before itself
 pub best-start : (g : Graph) (r : ℕ) → g .size < slots → Selfless g r → Best g (replicate 2048 0) r
 best-start g r h s = record {
   to = s .to;
@@ -186,7 +186,7 @@ best-start g r h s = record {
   least = λ i hi e y. absurd (omega (arith, getD-replicate {A = ℕ} 2048 i 0 0 (omega arith)));
 }
 
--- when none is new, best is the lowest number on a cycle
+-- when none is new, best is the lowest index on a cycle
 pub best-first : (g : Graph) (mark stack bound finger : List ℕ) (best : ℕ) → Walked g mark stack bound finger 0 0 0 → Best g mark best
     → ((i : ℕ) → i < g .size → free mark i ≡ false) → best ≡ first (isOnRing g) (g .size)
 unfolding free

@@ -1,4 +1,4 @@
--- How the path changes: a finger moves on or has run out, segments join, a new number is put on the path.
+-- How the path changes: a finger moves on or has run out, segments join, a new index is put on the path.
 use Prim.Native.Nat.{ℕ, _+_, _-_, _<_, _≤_}
 use native.Mathlib.Omega.{arith}
 use mathlib.Core.Path.{_≡_, sym, subst, ap, _∙_}
@@ -42,7 +42,7 @@ module _ (g : Graph) (mark stack bound finger : List ℕ) (len top at : ℕ) (P 
     in-path : at - 1 < len
     in-path = omega (arith, P .upto)
 
-    -- the number worked on
+    -- the index worked on
     abbrev j : ℕ
     j = getD stack (at - 1) 0
 
@@ -52,7 +52,7 @@ module _ (g : Graph) (mark stack bound finger : List ℕ) (len top at : ℕ) (P 
     only : (p : ℕ) → p < len → getD stack p 0 ≡ j → p ≡ at - 1
     only p hp e = let a = P .on p hp .1 in let b = P .on (at - 1) in-path .1 in omega (arith, ap (λ (z : ℕ). getD mark z 0) e)
 
-    -- it leads to every number of the path
+    -- it leads to every index of the path
     pub leads-all : (p : ℕ) → p < len → Trail g j (getD stack p 0)
     leads-all p hp = P .reach p (at - 1) hp in-path (λ k hk _. let z = under-top k hk in omega arith)
 
@@ -125,7 +125,7 @@ module _ (g : Graph) (mark stack bound finger : List ℕ) (len top at : ℕ) (P 
           (λ q. P .spent p (omega arith) hl);
     }
 
-    -- a number f of a lower segment is before it: the segments join
+    -- an index f of a lower segment is before it: the segments join
     pub merge : (f t : ℕ) → f < g .size → g .before f j ≡ true → 2 ≤ getD mark f 0 → getD mark f 0 < base bound top + 2 → Merged bound top (getD mark f 0 - 2) t
         → (t < top) × Walked g mark stack bound finger len t at
     merge f t hf r two under w = (
@@ -170,7 +170,7 @@ module _ (g : Graph) (mark stack bound finger : List ℕ) (len top at : ℕ) (P 
         above-t p l k hk tk bk =
             by-eq t k (λ e. omega (arith, ap (λ (z : ℕ). getD bound z 0) e)) (λ d. let z = P .rising t k (omega arith) hk in omega arith)
 
-  -- a new number is put on the path, a segment of its own
+  -- a new index is put on the path, a segment of its own
   module _ (f : ℕ) (hf : f < g .size) (new : getD mark f 0 ≡ 0) (down : (p : ℕ) → p < len → Trail g f (getD stack p 0)) where
     abbrev mark′ : List ℕ
     mark′ = set mark f (len + 2)

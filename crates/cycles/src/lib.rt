@@ -1,7 +1,7 @@
-// The lowest label on a cycle of "before" (document 01, refusal 13). Chosen labels are spoken of by their numbers: their positions
-// in the strategy. The numbers are walked against "before", each once. The path of the walk falls into segments: the numbers of
-// one lead to one another. A number before the last one that lies on the path joins the segments from its own on; a segment whose
-// fingers have run out is done, and is on a cycle if it has two numbers or more. A number that is before itself is found beforehand.
+// The lowest label on a cycle of "before" (document 01, refusal 13). Chosen labels are spoken of by their indices: their positions
+// in the strategy. The indices are walked against "before", each once. The path of the walk falls into segments: the indices of
+// one lead to one another. An index before the last one that lies on the path joins the segments from its own on; a segment whose
+// fingers have run out is done, and is on a cycle if it has two indices or more. An index that is before itself is found beforehand.
 ghost use mathlib.Core.Path.{_≡_};
 ghost use Prim.Native.Nat.{ℕ, _+_, _-_, _<_, _≤_};
 ghost use lib.ListN.{length, getD};
@@ -24,8 +24,8 @@ use paper::limits::SLOTS;
 use rows::arg_of;
 use rows::from_of;
 
-// Where the walk stands: how many numbers the path has, and how many segments; the position after the one worked on; and
-// the lowest number found on a cycle so far.
+// Where the walk stands: how many indices the path has, and how many segments; the position after the one worked on; and
+// the lowest index found on a cycle so far.
 struct Walk {
     len: usize,
     top: usize,
@@ -33,7 +33,7 @@ struct Walk {
     best: usize,
 }
 
-// Marks the numbers of the path from position `from` on as done.
+// Marks the indices of the path from position `from` on as done.
 fn finish(mark: &mut [u16; SLOTS], stack: &[u16; SLOTS], from: usize, len: usize)
     requires { ⌜ (length (now mark) ≡ slots) × (len ≤ slots) × (from ≤ len) × ((p : ℕ) → p < len → getD (now stack) p 0 < slots) ⌝ }
     ensures { λ _. ⌜ Finished (now (mark .entry)) (now (stack .entry)) from len (now (mark .exit)) ⌝ }
@@ -46,7 +46,7 @@ fn finish(mark: &mut [u16; SLOTS], stack: &[u16; SLOTS], from: usize, len: usize
     }
 }
 
-// The least of `best` and the numbers of the path from position `from` on.
+// The least of `best` and the indices of the path from position `from` on.
 fn settle(stack: &[u16; SLOTS], from: usize, len: usize, best: usize) -> usize
     requires { ⌜ (len ≤ slots) × (from ≤ len) ⌝ }
     ensures { λ r. ⌜ Settled (now (stack .entry)) from len best r ⌝ }
@@ -60,7 +60,7 @@ fn settle(stack: &[u16; SLOTS], from: usize, len: usize, best: usize) -> usize
     r
 }
 
-// The same, if they are two or more: a single number is on a cycle only if it is before itself.
+// The same, if they are two or more: a single index is on a cycle only if it is before itself.
 fn counted(stack: &[u16; SLOTS], from: usize, len: usize, best: usize) -> usize
     requires { ⌜ (len ≤ slots) × (from ≤ len) ⌝ }
     ensures { λ r. ⌜ Counted (now (stack .entry)) from len best r ⌝ }
@@ -83,7 +83,7 @@ fn merged(bound: &[u16; SLOTS], top: usize, p: usize) -> usize
     t
 }
 
-// One step of the walk: the last segment is done, or a finger moves on, and has run out, or finds a new number, or one of
+// One step of the walk: the last segment is done, or a finger moves on, and has run out, or finds a new index, or one of
 // the path.
 fn step(
     rows: &[u16],
@@ -117,7 +117,7 @@ fn step(
     }
     let j = stack[at - 1] as usize;
     let x = seek(rows, reads, chosen, net, n, mark, b, j, finger[j]);
-    let l = x.number;
+    let l = x.index;
     finger[j] = x.finger;
     if chosen.len() <= l {
         w.at = at - 1;
@@ -212,7 +212,7 @@ fn is_before_itself(
     false
 }
 
-// The lowest number that is before itself, or how many there are.
+// The lowest index that is before itself, or how many there are.
 fn first_self(rows: &[u16], reads: &[u16], chosen: &[u16], net: &[u16; NET_LENGTH], n: u16) -> usize
     requires { ⌜ Ready (now rows) (now reads) (now chosen) (now net) n ⌝ }
     ensures { λ r. ⌜ Selfless (graphOf (now (rows .entry)) (now (reads .entry)) (now (chosen .entry)) n) r ⌝ }
@@ -227,7 +227,7 @@ fn first_self(rows: &[u16], reads: &[u16], chosen: &[u16], net: &[u16; NET_LENGT
     j
 }
 
-// The lowest number on a cycle, or how many there are.
+// The lowest index on a cycle, or how many there are.
 pub fn lowest_on_cycle(
     rows: &[u16],
     reads: &[u16],

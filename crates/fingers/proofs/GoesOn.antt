@@ -1,5 +1,5 @@
--- From a place to the place after it: past a number, into the next read, out to the star around. What lay from the one on
--- lies from the other on, but for the number passed.
+-- From a spot to the spot after it: past an index, into the next read, out to the star around. What lay from the one on
+-- lies from the other on, but for the index passed.
 use Prim.Native.Nat.{ℕ, suc, _+_, _-_, _<_, _≤_}
 use native.Mathlib.Omega.{arith}
 use native.Mathlib.Numerals.{add-one}
@@ -23,7 +23,7 @@ use Rattle.fingers.specs.Inside.Spots.{stopOf, readsAny, packed, pending
 use Rattle.fingers.proofs.Tests.{by-eq, by-lt, never}
 use Rattle.fingers.proofs.Guards.{Innermost, no-guard, the-guard}
 
--- the first number of a variable from k on
+-- the first index of a variable from k on
 module _ (rows chosen : List ℕ) (v k : ℕ) (h : k ≤ length chosen) where
   abbrev isOf : ℕ → Bool
   isOf m = eqb (argOf rows (getD chosen (k + m) 0)) v
@@ -70,7 +70,7 @@ unfolding starReads readsAny
 star-reads rows reads s v = let e : stopOf rows s - fromOf rows s ≡ argOf rows s = omega arith in rw e
 
 module _ (rows reads chosen : List ℕ) where
-  -- the parts of what lies from a place on
+  -- the parts of what lies from a spot on
   pub data Part (s r k i : ℕ) : Type 0 where
     chained : k < length chosen → variableOf rows chosen k ≡ variableOf rows chosen i → k ≤ i → Part s r k i
     readLater : readsAny reads r (stopOf rows s) (variableOf rows chosen i) ≡ true → Part s r k i
@@ -132,11 +132,11 @@ module _ (rows reads chosen : List ℕ) where
     pub stop-in : stopOf rows s ≤ length reads
     stop-in = ready .read s (P .star) (P .kind h)
 
-    -- k < length chosen: the next number of its variable
-    pub after-number : k < length chosen → After rows reads chosen #N s r k s r (getD net (nextsFrom + k) 0)
+    -- k < length chosen: the next index of its variable
+    pub after-index : k < length chosen → After rows reads chosen #N s r k s r (getD net (nextsFrom + k) 0)
     unfolding spotAfter
-    after-number l = rw (ready .netted .nexts k l) (record {
-      place = record { star = P .star; kind = P .kind; read = P .read; number = next-in .1 };
+    after-index l = rw (ready .netted .nexts k l) (record {
+      spot = record { star = P .star; kind = P .kind; read = P .read; index = next-in .1 };
       old = λ i e. joins s r k i h (old i (parts s r next i e));
       less = let z = next-in in omega (arith, ahead-is s r k h, ahead-is s r next h);
       only = λ i hi e f. (l, by-eq i k (λ q. q) (λ d. never _ (joins s r next i h (new i hi d (parts s r k i e))) f));
@@ -165,15 +165,15 @@ module _ (rows reads chosen : List ℕ) where
         new i hi d (readLater a) = readLater a
         new i hi d (readAround a) = readAround a
 
-    -- all numbers of a read are passed: the next read, and the first number of its variable
+    -- all indices of a read are passed: the next read, and the first index of its variable
     pub after-read : length chosen ≤ k → r < stopOf rows s → After rows reads chosen #N s r k s (r + 1) (getD net (firstsFrom + getD reads r 0) 0)
     unfolding spotAfter
     after-read l m = rw (ready .netted .firsts v (ready .variables r (let z = stop-in in omega arith))) (record {
-      place = record {
+      spot = record {
         star = P .star;
         kind = P .kind;
         read = λ _. let z = stop-in in omega (arith, ready .few);
-        number = with-in rows chosen v 0 (omega arith) .1;
+        index = with-in rows chosen v 0 (omega arith) .1;
       };
       old = λ i e. joins s r k i h (old i (parts s (r + 1) start i e));
       less = omega (arith, ahead-is s r k h, ahead-is s (r + 1) start h, ready .choice .few);
@@ -228,7 +228,7 @@ module _ (rows reads chosen : List ℕ) where
 
         no-more : guardOf rows s ≤ 0 → After rows reads chosen #N s r k (guardOf rows s) (fromOf rows (guardOf rows s)) (length chosen)
         no-more none = let e : guardOf rows s ≡ 0 = omega arith in rw e (record {
-          place = record { star = let z = P .star in omega arith; kind = λ q. absurd (omega arith); read = λ q. absurd (omega arith); number = omega arith };
+          spot = record { star = let z = P .star in omega arith; kind = λ q. absurd (omega arith); read = λ q. absurd (omega arith); index = omega arith };
           old = λ i q. absurd (let z = some-star 0 (fromOf rows 0) (length chosen) i q in omega arith);
           less = omega (arith, ahead-is s r k h, ahead-none (fromOf rows 0) (length chosen));
           only = λ i hi q f. never _ (from-here i q) (no-guard rows reads #N (ready .choice .tree) s (variableOf rows chosen i) e);
@@ -237,11 +237,11 @@ module _ (rows reads chosen : List ℕ) where
 
         some-guard : 0 < guardOf rows s → After rows reads chosen #N s r k (guardOf rows s) (fromOf rows (guardOf rows s)) (length chosen)
         some-guard o = record {
-          place = record {
+          spot = record {
             star = let z = P .star in omega (arith, w .below);
             kind = λ _. kind;
             read = λ _. let z = stop in omega (arith, ready .few);
-            number = omega arith;
+            index = omega arith;
           };
           old = λ i e. joins s r k i h (readAround (w .outward (variableOf rows chosen i) ∙ sym (opened (guardOf rows s) i o) ∙ e));
           less =

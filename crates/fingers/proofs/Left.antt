@@ -1,4 +1,4 @@
--- The new numbers below n, and how they change when one of them gets a mark.
+-- The new indices below n, and how they change when one of them gets a mark.
 use Prim.Native.Nat.{ℕ, _+_, _<_, _≤_}
 use native.Mathlib.Omega.{arith}
 use mathlib.Core.Path.{_≡_, refl, sym, subst, ap, _∙_}
@@ -20,7 +20,7 @@ pub left-few : (n : ℕ) (mark : List ℕ) → 0 + length (leftOf n mark) ≤ n
 unfolding leftOf
 left-few n mark = let z = those-le (free mark) (upTo n) in omega (arith, length-upTo n)
 
--- a mark a is put at k, which was new: the new numbers are those that were, without it
+-- a mark a is put at k, which was new: the new indices are those that were, without it
 module _ (a : ℕ) (some : a ≡ 0 → ⊥) (k : ℕ) (mark : List ℕ) (long : k < length mark) where
   pub freed : (i : ℕ) → free (set mark k a) i ≡ (free mark i && not (eqb i k))
   unfolding free

@@ -1,4 +1,4 @@
--- What a look at a number gives: labels known to share no branch with that of j answer for themselves, others are asked.
+-- What a look at an index gives: labels known to share no branch with that of j answer for themselves, others are asked.
 use Prim.Native.Nat.{ℕ, _<_, _≤_}
 use native.Mathlib.Omega.{arith}
 use mathlib.Core.Path.{_≡_, refl, sym, _∙_}

@@ -1,4 +1,4 @@
--- A search from place to place, and the finger that it ends with; the finger that each number starts with.
+-- A search from spot to spot, and the finger that it ends with; the finger that each index starts with.
 use Prim.Native.Nat.{ℕ, _+_, _/_, _%_, _<_, _≤_}
 use native.Mathlib.Omega.{arith}
 use mathlib.Core.Path.{_≡_, refl, sym, subst, ap, _∙_}
@@ -42,7 +42,7 @@ unpacked : (s r k : ℕ) → r < 65536 → k < 65536 → (packed s r k / 4294967
 unpacked s r k a b = (omega arith, omega arith, omega arith)
 
 module _ (rows reads chosen : List ℕ) (#N : ℕ) where
-  -- the search moves on, past a number that does not call
+  -- the search moves on, past an index that does not call
   module _ (o : ℕ → Bool) (j s₀ r₀ k₀ : ℕ) where
     pub sought-none : SpotOf rows reads chosen #N j s₀ r₀ k₀ → Sought rows reads chosen #N o j s₀ r₀ k₀ s₀ r₀ k₀
     sought-none P = record { at = P; none = λ i hi e f. never _ e f; onto = refl }
@@ -57,7 +57,7 @@ module _ (rows reads chosen : List ℕ) (#N : ℕ) where
         → Sought rows reads chosen #N o j s₀ r₀ k₀ s r k → calls rows chosen o k j ≡ false → After rows reads chosen #N s r k s′ r′ k′
         → Sought rows reads chosen #N o j s₀ r₀ k₀ s′ r′ k′
     sought-more net ready s r k s′ r′ k′ h x e a = record {
-      at = record { place = a .place; frozen = λ i q. x .at .frozen i (a .old i q) };
+      at = record { spot = a .spot; frozen = λ i q. x .at .frozen i (a .old i q) };
       none = λ i hi b f q. by (pending rows reads chosen s r k i)
           (λ c. let z = a .only i hi c f in
           subst (λ y. prior rows reads chosen y j ≡ false) (sym (z .1)) (not-prior k (z .0) e (subst (λ y. o y ≡ true) (z .1) q)))
@@ -91,7 +91,7 @@ module _ (rows reads chosen : List ℕ) (#N : ℕ) where
     next-hit s r k small h x e =
         let l = ltb-true k (length chosen) (and-left (ltb k (length chosen)) _ e) in
         let q = and-right (ltb k (length chosen)) _ e in
-        let u = unpacked s r k (let z = x .at .place .read h in omega arith) (omega arith) in
+        let u = unpacked s r k (let z = x .at .spot .read h in omega arith) (omega arith) in
         finds (packed s r k) s r k (u .0) (u .1) (u .2) k (omega arith) x
         (λ _. (
           and-left (o k) _ q,
@@ -109,11 +109,11 @@ module _ (rows reads chosen : List ℕ) (#N : ℕ) where
         ended : SoughtTo 0 0 0
         ended = record {
           at = record {
-            place = record {
-              star = let z = x .at .place .star in omega arith;
+            spot = record {
+              star = let z = x .at .spot .star in omega arith;
               kind = λ q. absurd (omega arith);
               read = λ q. absurd (omega arith);
-              number = omega arith;
+              index = omega arith;
             };
             frozen = λ i q. never _ q (gone 0 0 0 refl i);
           };
@@ -122,13 +122,13 @@ module _ (rows reads chosen : List ℕ) (#N : ℕ) where
         }
 
     pub sought-hit : (s r k : ℕ) → length chosen < slots → 0 < s → SoughtTo s r k → calls rows chosen o k j ≡ true
-        → Answered rows reads chosen #N o j p (record { finger = packed s r k; number = k })
+        → Answered rows reads chosen #N o j p (record { finger = packed s r k; index = k })
     sought-hit s r k small h x e = record {
       next = next-hit s r k small h x e;
       exactly = sym (x .onto ∙ found-here rows reads chosen o j s r k h e);
     }
 
-    pub sought-out : (s r k : ℕ) → s ≡ 0 → SoughtTo s r k → Answered rows reads chosen #N o j p (record { finger = 0; number = length chosen })
+    pub sought-out : (s r k : ℕ) → s ≡ 0 → SoughtTo s r k → Answered rows reads chosen #N o j p (record { finger = 0; index = length chosen })
     sought-out s r k e x = record {
       next = next-out s r k e x;
       exactly = sym (x .onto ∙ found-none rows reads chosen o j s r k e);
@@ -161,10 +161,10 @@ module _ (rows reads chosen : List ℕ) (#N : ℕ) where
     unfolding startOf
     start-parts = unpacked own (fromOf rows own) (length chosen) (let z = from-in in omega arith) (let z = ready .choice .few in omega arith)
 
-    start-place : fingerOf rows reads chosen #N j (startOf rows chosen j)
+    start-spot : fingerOf rows reads chosen #N j (startOf rows chosen j)
     unfolding fingerOf
-    start-place = let e = start-parts in rw (e .0, e .1, e .2) (record {
-      place = record { star = own-in; kind = λ _. own-star; read = λ _. from-in; number = omega arith };
+    start-spot = let e = start-parts in rw (e .0, e .1, e .2) (record {
+      spot = record { star = own-in; kind = λ _. own-star; read = λ _. from-in; index = omega arith };
       frozen = λ i q. sym (all-frozen i) ∙ q;
     })
 
@@ -181,7 +181,7 @@ module _ (rows reads chosen : List ℕ) (#N : ℕ) where
       → Started (graphOf rows reads chosen #N) finger
   started net old finger ready a = record {
     size = a .size;
-    within = λ j h. subst (fingerOf rows reads chosen #N j) (sym (a .starts j h)) (start-place net ready j h);
+    within = λ j h. subst (fingerOf rows reads chosen #N j) (sym (a .starts j h)) (start-spot net ready j h);
     clear = λ j h i hi e. start-clear net ready j h i (subst (λ z. passedOf rows reads chosen #N j z i ≡ true) (a .starts j h) e);
   }
 

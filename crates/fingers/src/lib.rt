@@ -13,7 +13,7 @@ ghost use Rattle.paper.specs.Limits.{mostRows, slots};
 use entries::wide;
 use net::NET_LENGTH;
 use net::clear_of;
-use net::first_of;
+use net::first_with;
 use net::guard_of;
 use net::next_of;
 use paper::Label;
@@ -22,25 +22,25 @@ use paper::limits::SLOTS;
 use rows::arg_of;
 use rows::from_of;
 
-// A place that a finger points to: a star (label 0 for none), its next read, and the next number of the read before.
+// A spot that a finger points to: a star (label 0 for none), its next read, and the next index of the read before.
 pub struct Spot {
     pub star: Label,
     pub read: usize,
     pub next: usize,
 }
 
-// What is known after a look at a number: whether it calls, that is, is open and shares a branch with the one at hand; and
+// What is known after a look at an index: whether it calls, that is, is open and shares a branch with the one at hand; and
 // labels, from `from` up to `to`, that share no branch with it.
 pub struct Seen {
     pub hit: bool,
-    pub from: u16,
-    pub to: u16,
+    pub from: Label,
+    pub to: Label,
 }
 
-// A finger, and the number there, or how many there are where it has run out.
-pub struct Found {
+// A finger moved on, and the index there, or how many there are where it has run out.
+pub struct Moved {
     pub finger: u64,
-    pub number: usize,
+    pub index: usize,
 }
 
 // One past the last read of a star.
@@ -51,7 +51,7 @@ pub fn stop_of(rows: &[u16], star: Label) -> usize
     wide(from_of(rows, star)) + wide(arg_of(rows, star))
 }
 
-// The place after p, which has a star.
+// The spot after p, which has a star.
 fn onward(
     rows: &[u16],
     reads: &[u16],
@@ -80,7 +80,7 @@ fn onward(
         return Spot {
             star: star,
             read: read + 1,
-            next: first_of(net, v),
+            next: first_with(net, v),
         };
     }
     let guard = guard_of(net, star);
@@ -102,7 +102,7 @@ fn is_outside(mark: &[u16; SLOTS], b: usize, i: usize) -> bool
     wide(mark[i]) < b + 2
 }
 
-// A look at an open number k. Labels that are known to share no branch with that of j are not asked about again.
+// A look at an open index k. Labels that are known to share no branch with that of j are not asked about again.
 fn look_at(
     rows: &[u16],
     chosen: &[u16],
@@ -113,30 +113,32 @@ fn look_at(
     seen: Seen,
 ) -> Seen
     requires { ⌜ Chosen (now rows) (now chosen) n × Net (now rows) (now chosen) n (now net) × (k < length (now chosen))
-        × (j < length (now chosen)) × Apart (now rows) (now chosen) j (seen .from) (seen .to) ⌝ }
+        × (j < length (now chosen)) × Apart (now rows) (now chosen) j (seen .from .0) (seen .to .0) ⌝ }
     ensures { λ r. ⌜ Looked (now (rows .entry))
-        (now (chosen .entry)) (shareBranchIn (now (rows .entry)) (getD (now (chosen .entry)) k 0) (getD (now (chosen .entry)) j 0)) j (r .from) (r .to)
+        (now (chosen .entry)) (shareBranchIn (now (rows .entry)) (getD (now (chosen .entry)) k 0) (getD (now (chosen .entry)) j 0)) j (r .from .0) (r .to .0)
         (r .hit) ⌝ }
 {
     let i = Label(chosen[k]);
-    if seen.from <= i.0 {
-        if i.0 < seen.to {
+    let from = seen.from;
+    let to = seen.to;
+    if from.0 <= i.0 {
+        if i.0 < to.0 {
             return Seen {
                 hit: false,
-                from: seen.from,
-                to: seen.to,
+                from: from,
+                to: to,
             };
         }
     }
-    let to = clear_of(rows, net, n, i, Label(chosen[j]));
+    let clear = clear_of(rows, net, n, i, Label(chosen[j]));
     Seen {
-        hit: to.0 == i.0,
-        from: i.0,
-        to: to.0,
+        hit: clear.0 == i.0,
+        from: i,
+        to: clear,
     }
 }
 
-// A look at k, which may be no number.
+// A look at k, which may be no index.
 fn look(
     rows: &[u16],
     chosen: &[u16],
@@ -149,10 +151,12 @@ fn look(
     seen: Seen,
 ) -> Seen
     requires { ⌜ Chosen (now rows) (now chosen) n × Net (now rows) (now chosen) n (now net) × (b < slots) × (j < length (now chosen))
-        × Apart (now rows) (now chosen) j (seen .from) (seen .to) ⌝ }
+        × Apart (now rows) (now chosen) j (seen .from .0) (seen .to .0) ⌝ }
     ensures { λ r. ⌜ Looked (now (rows .entry))
-        (now (chosen .entry)) (calls (now (rows .entry)) (now (chosen .entry)) (outside (now (mark .entry)) b) k j) j (r .from) (r .to) (r .hit) ⌝ }
+        (now (chosen .entry)) (calls (now (rows .entry)) (now (chosen .entry)) (outside (now (mark .entry)) b) k j) j (r .from .0) (r .to .0) (r .hit) ⌝ }
 {
+    let from = seen.from;
+    let to = seen.to;
     if k < chosen.len() {
         if is_outside(mark, b, k) {
             return look_at(rows, chosen, net, n, k, j, seen);
@@ -160,12 +164,12 @@ fn look(
     }
     Seen {
         hit: false,
-        from: seen.from,
-        to: seen.to,
+        from: from,
+        to: to,
     }
 }
 
-// A place as a finger, and back.
+// A spot as a finger, and back.
 fn pack(p: Spot) -> u64
     requires { ⌜ (p .read < 65536) × (p .next < 65536) ⌝ }
     ensures { λ r. ⌜ r ≡ packed (p .star .0) (p .read) (p .next) ⌝ }
@@ -186,7 +190,7 @@ fn spot_of(f: u64) -> Spot
     }
 }
 
-// The finger of j moved on from `finger` to the first place whose number is before j and is new or on the path below
+// The finger of j moved on from `finger` to the first spot whose index is before j and is new or on the path below
 // position b, or to 0.
 pub fn seek(
     rows: &[u16],
@@ -198,33 +202,33 @@ pub fn seek(
     b: usize,
     j: usize,
     finger: u64,
-) -> Found
+) -> Moved
     requires { ⌜ Ready (now rows) (now reads) (now chosen) (now net) n × Seekable (graphOf (now rows) (now reads) (now chosen) n) b j finger ⌝ }
     ensures { λ r. ⌜ Answered (now (rows .entry)) (now (reads .entry)) (now (chosen .entry)) n (outside (now (mark .entry)) b) j finger r ⌝ }
 {
     let mut p = spot_of(finger);
     let mut seen = Seen {
         hit: false,
-        from: 0,
-        to: 0,
+        from: Label(0),
+        to: Label(0),
     };
     while 0 < p.star.0 {
         seen = look(rows, chosen, net, n, mark, b, p.next, j, seen);
         if seen.hit {
-            return Found {
+            return Moved {
                 finger: pack(p),
-                number: p.next,
+                index: p.next,
             };
         }
         p = onward(rows, reads, chosen, net, n, p);
     }
-    Found {
+    Moved {
         finger: 0,
-        number: chosen.len(),
+        index: chosen.len(),
     }
 }
 
-// Puts every finger before all that its number's own star reads; words beyond them stay.
+// Puts every finger before all that its index's own star reads; words beyond them stay.
 pub fn start(rows: &[u16], chosen: &[u16], n: u16, finger: &mut [u64; SLOTS])
     requires { ⌜ Chosen (now rows) (now chosen) n × (length (now finger) ≡ slots) ⌝ }
     ensures { λ _. ⌜ AtStart (now (rows .entry)) (now (chosen .entry)) (length (now (chosen .entry))) (now (finger .entry)) (now (finger .exit)) ⌝ }

@@ -7,6 +7,7 @@ ghost use mathlib.Core.List.{[], _∷_};
 ghost use Rattle.marks.specs.Marks.{positionsFrom, positions};
 ghost use Rattle.listing.specs.Text.{decimal, field, fields, acceptedLine, orderLine, transitionLine, refusedLine};
 ghost use Rattle.listing.specs.Inside.Placed.{Put};
+use paper::Label;
 
 // One byte.
 pub fn put_byte(buf: &mut [u8], at: usize, b: u8) -> usize
@@ -101,12 +102,12 @@ fn put_count(buf: &mut [u8], at: usize, n: u32) -> usize
 }
 
 // A space and a label: six bytes at most.
-fn put_label(buf: &mut [u8], at: usize, label: u16) -> usize
+fn put_label(buf: &mut [u8], at: usize, label: Label) -> usize
     requires { ⌜ at + 6 ≤ length (now buf) ⌝ }
-    ensures { λ r. ⌜ Put (now (buf .entry)) at (field label) (now (buf .exit)) r ⌝ }
+    ensures { λ r. ⌜ Put (now (buf .entry)) at (field (label .0)) (now (buf .exit)) r ⌝ }
     ensures { λ r. ⌜ r ≤ at + 6 ⌝ }
 {
-    put_field(buf, at, label as u32)
+    put_field(buf, at, label.0 as u32)
 }
 
 // The labels, each after a space.
@@ -118,20 +119,20 @@ pub fn put_fields(buf: &mut [u8], at: usize, labels: &[u16]) -> usize
     let mut next = at;
     let mut i = 0;
     while i < labels.len() {
-        next = put_label(buf, next, labels[i]);
+        next = put_label(buf, next, Label(labels[i]));
         i += 1;
     }
     next
 }
 
-// A position, where its byte is 1.
-fn put_position(buf: &mut [u8], at: usize, k: u16, byte: u8) -> usize
+// A label, where its byte is 1.
+fn put_position(buf: &mut [u8], at: usize, label: Label, byte: u8) -> usize
     requires { ⌜ at + 6 ≤ length (now buf) ⌝ }
-    ensures { λ r. ⌜ Put (now (buf .entry)) at (fields (positionsFrom k (byte ∷ []))) (now (buf .exit)) r ⌝ }
+    ensures { λ r. ⌜ Put (now (buf .entry)) at (fields (positionsFrom (label .0) (byte ∷ []))) (now (buf .exit)) r ⌝ }
     ensures { λ r. ⌜ r ≤ at + 6 ⌝ }
 {
     if byte == 1 {
-        return put_label(buf, at, k);
+        return put_label(buf, at, label);
     }
     at
 }
@@ -145,7 +146,7 @@ pub fn put_kept_fields(buf: &mut [u8], at: usize, kept: &[u8]) -> usize
     let mut next = at;
     let mut i = 0;
     while i < kept.len() {
-        next = put_position(buf, next, i as u16, kept[i]);
+        next = put_position(buf, next, Label(i as u16), kept[i]);
         i += 1;
     }
     next

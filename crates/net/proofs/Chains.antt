@@ -1,5 +1,5 @@
--- The chains of chosen labels, made from the last label down: from number k on, each label has the number of the next one of
--- its variable, and each variable the number of its first label from k on.
+-- The chains of chosen labels, made from the last label down: from index k on, each label has the index of the next one of
+-- its variable, and each variable the index of its first label from k on.
 use Prim.Native.Nat.{ℕ, suc, _+_, _-_, _<_, _≤_}
 use native.Mathlib.Omega.{arith}
 use native.Mathlib.Nat.{eq-or-lt-of-le}
@@ -19,7 +19,7 @@ use Rattle.rows.proofs.Meets.{lt-or-le}
 use Rattle.net.specs.Inside.Net.{guardsFrom, nextsFrom, firstsFrom, netLength, Parents, Guards, Net, Only, IndexWord, firstWith}
 use Rattle.net.proofs.Notes.{parents-kept, guards-kept}
 
--- a search that passed one number goes on with the rest
+-- a search that passed one index goes on with the rest
 passed-one : (bad : ℕ → Bool) (n : ℕ) → bad 0 ≡ false → first bad (suc n) ≡ suc (first (λ k. bad (suc k)) n)
 unfolding first
 passed-one bad n e = rw e
@@ -38,7 +38,7 @@ module _ (rows chosen : List ℕ) where
   abbrev pub variableAt : ℕ → ℕ
   variableAt k = argOf rows (getD chosen k 0)
 
-  -- past the last label there is none; else the first from number k on is k itself, or the first from k + 1 on
+  -- past the last label there is none; else the first from index k on is k itself, or the first from k + 1 on
   first-past : (v k : ℕ) → k ≡ length chosen → firstWith rows chosen v k ≡ k
   unfolding firstWith
   first-past v k e = let f = first-none (λ m. eqb (variableAt (k + m)) v) (length chosen - k) (λ m b. absurd (omega arith)) in omega arith
@@ -61,7 +61,7 @@ module _ (rows chosen : List ℕ) where
       (λ m b. let e : k + suc m ≡ k + 1 + m = omega arith in ap (λ i. eqb (variableAt i) v) e) in
       rw l (omega arith)
 
-  -- a net in which the labels from number k on are linked
+  -- a net in which the labels from index k on are linked
   pub record Linked (#N k : ℕ) (net : List ℕ) : Type 0 where
     pub parents : Parents rows #N net
     pub guards : Guards rows #N net

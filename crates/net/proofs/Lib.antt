@@ -8,5 +8,5 @@ pub mod Spans
 pub mod Sharing
 pub mod Freezing
 pub mod PriorIsBefore
-pub mod Numbered
+pub mod Indexed
 pub mod OneOutcome

@@ -13,7 +13,7 @@ use Rattle.rows.proofs.Meets.{lt-or-le}
 use Rattle.net.specs.Inside.Net.{guardsFrom, nextsFrom, firstsFrom, netLength, Chosen, Noted, ParentWord, GuardWord, IndexWord}
 use Rattle.net.proofs as net
 
--- a word of a part, by its place there
+-- a word of a part, by its position there
 module _ (xs ys : List ℕ) (from : ℕ) {i : ℕ} (h : from ≤ i) where
   placed : ((k : ℕ) → i ≡ from + k → getD xs (from + k) 0 ≡ getD ys (from + k) 0) → getD xs i 0 ≡ getD ys i 0
   placed same = let e : i ≡ from + (i - from) = omega arith in subst⁻¹ (λ m. getD xs m 0 ≡ getD ys m 0) e (same (i - from) e)
@@ -95,8 +95,8 @@ guard-of κs a pre x y v w p q = (by-equation p q, refl)
 pub next-of : OneOutcome net.next_of.Kinds.ps net.next_of.Kinds.r net.next_of.Reads.Pre net.next_of.Reads.Post
 next-of κs a pre x y v w p q = (by-equation p q, refl)
 
-pub first-of : OneOutcome net.first_of.Kinds.ps net.first_of.Kinds.r net.first_of.Reads.Pre net.first_of.Reads.Post
-first-of κs a pre x y v w p q = (by-equation p q, refl)
+pub first-with : OneOutcome net.first_with.Kinds.ps net.first_with.Kinds.r net.first_with.Reads.Pre net.first_with.Reads.Post
+first-with κs a pre x y v w p q = (by-equation p q, refl)
 
 pub clear-of : OneOutcome net.clear_of.Kinds.ps net.clear_of.Kinds.r net.clear_of.Reads.Pre net.clear_of.Reads.Post
 clear-of κs a pre x y v w p q = (ap ℓ (by-equation (p .exactly) (q .exactly)), refl)

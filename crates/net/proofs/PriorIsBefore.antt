@@ -23,7 +23,7 @@ use Rattle.net.specs.Inside.Prior.{prior}
 use Rattle.net.proofs.Spans.{rises, Among, candidateAt, candidate-listed}
 use Rattle.net.proofs.Sharing.{sharing-is-together}
 use Rattle.net.proofs.Freezing.{frozen-as-rows-say}
-use Rattle.net.proofs.Numbered.{entries-numbered, order-is-numbered, cycle-is-numbered}
+use Rattle.net.proofs.Indexed.{entries-indexed, order-is-indexed, cycle-is-indexed}
 
 -- an entry of a list is a member
 entry-of : (xs : List ℕ) (k : ℕ) → k < length xs → List·Memᴰ (getD xs k 0) xs
@@ -69,16 +69,16 @@ module _ (rows reads : List ℕ) (f : Formula) (writes : Writes rows reads f 0 0
         row-of : (k : ℕ) → k < length chosen → Among rows (getD chosen k 0) 0 (size f)
         row-of k h = let b = below k h in record { from = omega arith; below = omega arith; kind = kinds k h }
 
-    -- so the reported order and the cycles go by the numbers of the chosen labels, which ascend
+    -- so the reported order and the cycles go by the indices of the chosen labels, which ascend
     module _ (ascend : (j k : ℕ) → j < k → k < length chosen → getD chosen j 0 < getD chosen k 0) where
       pub order-by-rows : order (before f (map ℓ chosen)) (map ℓ chosen)
           ≡ map (λ k. ℓ (getD chosen k 0)) (greedyBy (prior rows reads chosen) eqb (length chosen) (upTo (length chosen)))
       order-by-rows =
-          ap (order (before f (map ℓ chosen))) (sym (entries-numbered chosen))
-          ∙ order-is-numbered (before f (map ℓ chosen)) (prior rows reads chosen) (λ k. getD chosen k 0) (length chosen) prior-is-before ascend
+          ap (order (before f (map ℓ chosen))) (sym (entries-indexed chosen))
+          ∙ order-is-indexed (before f (map ℓ chosen)) (prior rows reads chosen) (λ k. getD chosen k 0) (length chosen) prior-is-before ascend
 
       pub cycle-by-rows : (i : ℕ) → i < length chosen
           → onCycle (before f (map ℓ chosen)) (map ℓ chosen) (ℓ (getD chosen i 0)) ≡ onCycle (prior rows reads chosen) (upTo (length chosen)) i
       cycle-by-rows i h =
-          ap (λ A. onCycle (before f (map ℓ chosen)) A (ℓ (getD chosen i 0))) (sym (entries-numbered chosen))
-          ∙ cycle-is-numbered (before f (map ℓ chosen)) (prior rows reads chosen) (λ k. getD chosen k 0) (length chosen) prior-is-before ascend i h
+          ap (λ A. onCycle (before f (map ℓ chosen)) A (ℓ (getD chosen i 0))) (sym (entries-indexed chosen))
+          ∙ cycle-is-indexed (before f (map ℓ chosen)) (prior rows reads chosen) (λ k. getD chosen k 0) (length chosen) prior-is-before ascend i h

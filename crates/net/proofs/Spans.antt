@@ -1,5 +1,5 @@
 -- The rows of a formula that rows write: as many as it has labels, from its first row on. Each of them ends among them,
--- their numbers are its labels, which so rise, and a candidate among the rows of a join stands among those of one child.
+-- their positions are its labels, which so rise, and a candidate among the rows of a join stands among those of one child.
 use Prim.Native.Nat.{ℕ, zero, suc, _+_, _<_, _≤_}
 use native.Mathlib.Omega.{arith}
 use native.Mathlib.Nat.{eq-or-lt-of-le}
@@ -48,7 +48,7 @@ labels-behind-star : {i : ℕ} {l : Label} (s : Star) {ls : List Label} → l �
 labels-behind-star {i} s d e h = cc (add-one i, add-two i)
 
 module _ (rows reads : List ℕ) where
-  -- the numbers of a formula's rows are its labels
+  -- the positions of a formula's rows are its labels
   mutual
     pub labels-count : (f : Formula) (i t : ℕ) → Writes rows reads f i t → labels f ≡ labelsOn i (size f)
     labels-count (FALSE l) i t w = ap (λ x. x ∷ []) (w .0)

@@ -16,7 +16,7 @@ use rows::arg_of;
 use rows::end_of;
 use rows::kind_of;
 
-// Where the parts of a net begin, as specs/Net.antt has them, and how many words it has.
+// Where the parts of a net begin, as specs/Inside/Net.antt has them, and how many words it has.
 const GUARDS_FROM: usize = 4096;
 
 const NEXTS_FROM: usize = 8192;
@@ -43,7 +43,7 @@ pub fn guard_of(net: &[u16; NET_LENGTH], at: Label) -> Label
     Label(net[GUARDS_FROM + i])
 }
 
-// The number of the next chosen label with the variable of the k-th.
+// The index of the next chosen label with the variable of the k-th.
 pub fn next_of(net: &[u16; NET_LENGTH], k: usize) -> usize
     requires { ⌜ k < slots ⌝ }
     ensures { λ r. ⌜ r ≡ getD (now (net .entry)) (nextsFrom + k) 0 ⌝ }
@@ -51,8 +51,8 @@ pub fn next_of(net: &[u16; NET_LENGTH], k: usize) -> usize
     wide(net[NEXTS_FROM + k])
 }
 
-// The number of the first chosen label of a variable.
-pub fn first_of(net: &[u16; NET_LENGTH], v: Variable) -> usize
+// The index of the first chosen label of a variable.
+pub fn first_with(net: &[u16; NET_LENGTH], v: Variable) -> usize
     requires { ⌜ v .0 < mostVariables ⌝ }
     ensures { λ r. ⌜ r ≡ getD (now (net .entry)) (firstsFrom + v .0) 0 ⌝ }
 {
@@ -152,9 +152,10 @@ fn note_indices(rows: &[u16], chosen: &[u16], n: u16, net: &mut [u16; NET_LENGTH
     let mut k = chosen.len();
     while 0 < k {
         k -= 1;
-        let v = wide(arg_of(rows, Label(chosen[k])));
-        net[NEXTS_FROM + k] = net[FIRSTS_FROM + v];
-        net[FIRSTS_FROM + v] = k as u16;
+        let v = Variable(arg_of(rows, Label(chosen[k])));
+        let first = FIRSTS_FROM + wide(v.0);
+        net[NEXTS_FROM + k] = net[first];
+        net[first] = k as u16;
     }
 }
 

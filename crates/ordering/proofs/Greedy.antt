@@ -1,5 +1,5 @@
--- The code's steps are those of the reported order: the lowest number that is ready is the first of those left that no
--- number left is before.
+-- The code's steps are those of the reported order: the lowest index that is ready is the first of those left that no
+-- index left is before.
 use Prim.Native.Nat.{ℕ, zero, suc, _+_, _-_, _<_, _≤_}
 use native.Mathlib.Omega.{arith}
 use native.Mathlib.Numerals.{add-one}
@@ -35,13 +35,13 @@ module _ (g : Graph) where
   rest-stuck (suc m) left e = rw (e, greedyBy)
 
   module _ (k : ℕ) (placed finger wait low : List ℕ) (s : State g k placed finger wait low) where
-    -- a number below k that is left is not ready
+    -- an index below k that is left is not ready
     not-ready : (j : ℕ) → j < k → free placed j ≡ true → isReady (g .before) (leftOf (g .size) placed) j ≡ false
     unfolding leftOf
     not-ready j h e =
         let b = s .blocked j h e in ap not (some-kept (λ i. g .before i j) (free placed) (g .size) (getD wait j 0) (b .inside) (b .waiting) (b .because))
 
-    -- a number whose finger has passed all is ready
+    -- an index whose finger has passed all is ready
     is-ready : k < g .size → ((i : ℕ) → i < g .size → g .passed k (getD finger k 0) i ≡ true) → isReady (g .before) (leftOf (g .size) placed) k ≡ true
     unfolding leftOf
     is-ready h e = ap not (none-some (λ i. g .before i k) (free placed) (g .size) (λ i l q. s .clear k h i l (e i l) q))
@@ -55,7 +55,7 @@ module _ (g : Graph) where
     unfolding leftOf
     none-is h = none-kept (isReady (g .before) (leftOf (g .size) placed)) (free placed) (g .size) (λ i l q. not-ready i (omega arith) q)
 
-    -- the state after k is placed, from the lowest number on that waited for it
+    -- the state after k is placed, from the lowest index on that waited for it
     pub state-after : k < g .size → (from : ℕ) → from ≤ getD low k 0 → from ≤ k + 1 → State g from (set placed k 1) finger wait low
     state-after h from l m = record {
       small = s .small;
@@ -91,7 +91,7 @@ module _ (g : Graph) where
         still : (i : ℕ) → free placed i ≡ true → (i ≡ k → ⊥) → free (set placed k 1) i ≡ true
         still i e q = freed 1 (λ z. omega arith) k placed long i ∙ rw (e, ne-eqb i k q)
 
-  -- one number more is placed
+  -- one index more is placed
   module _ (chosen : List ℕ) (count k : ℕ) (placed finger wait low out₀ out : List ℕ) (w : Lowest g placed finger wait low k)
       (p : Placing g chosen count placed out₀ out) (h : k < g .size) where
     long : k < length placed

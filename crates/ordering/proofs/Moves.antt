@@ -1,4 +1,4 @@
--- How the state of the placing changes: a number is visited and found placed, waiting, blocked or ready.
+-- How the state of the placing changes: an index is visited and found placed, waiting, blocked or ready.
 use Prim.Native.Nat.{ℕ, _+_, _<_, _≤_}
 use native.Mathlib.Omega.{arith}
 use mathlib.Core.Path.{_≡_, refl, sym, subst, _∙_}
@@ -16,7 +16,7 @@ use Rattle.fingers.proofs.Tests.{by, never, at-set}
 use Rattle.fingers.proofs.Seeking.{outside-free, next-alike}
 
 module _ (g : Graph) (k : ℕ) (placed finger wait low : List ℕ) (s : State g k placed finger wait low) where
-  -- one number more is blocked or placed
+  -- one index more is blocked or placed
   one-more : (free placed k ≡ true → Blocked g placed low k (getD wait k 0)) → State g (k + 1) placed finger wait low
   one-more b = record {
     small = s .small;

@@ -1,5 +1,5 @@
-// The reported order (document 01, "Reported order"): at each step the lowest number left that no number left is before. The
-// number of a chosen label is its position in the strategy. A number that is found to wait for another keeps it in `wait`, and
+// The reported order (document 01, "Reported order"): at each step the lowest index left that no index left is before. The
+// index of a chosen label is its position in the strategy. An index that is found to wait for another keeps it in `wait`, and
 // `low` keeps the lowest that waits for each, from which the next step looks on.
 ghost use mathlib.Core.Path.{_≡_};
 ghost use Prim.Native.Nat.{_≤_, _<_};
@@ -19,8 +19,8 @@ use fingers::start;
 use net::NET_LENGTH;
 use paper::limits::SLOTS;
 
-// A number that no chosen label has.
-const NO_NUMBER: u16 = 2048;
+// An index that no chosen label has.
+const NO_INDEX: u16 = 2048;
 
 // Notes that k waits for f.
 fn lower(low: &mut [u16; SLOTS], f: usize, k: usize)
@@ -32,7 +32,7 @@ fn lower(low: &mut [u16; SLOTS], f: usize, k: usize)
     }
 }
 
-// Whether w is a number, of so many, that is not placed.
+// Whether w is an index, of so many, that is not placed.
 fn is_waiting(placed: &[u16; SLOTS], size: usize, w: usize) -> bool
     requires { ⌜ size < slots ⌝ }
     ensures { λ r. ⌜ r ≡ (ltb w size && free (now (placed .entry)) w) ⌝ }
@@ -68,7 +68,7 @@ fn visit(
         return false;
     }
     let x = seek(rows, reads, chosen, net, n, placed, 0, k, finger[k]);
-    let l = x.number;
+    let l = x.index;
     finger[k] = x.finger;
     wait[k] = l as u16;
     if l < chosen.len() {
@@ -78,7 +78,7 @@ fn visit(
     true
 }
 
-// The lowest number from `from` on that is ready, or how many there are.
+// The lowest index from `from` on that is ready, or how many there are.
 fn lowest_ready(
     rows: &[u16],
     reads: &[u16],
@@ -120,8 +120,8 @@ pub fn order(
 {
     let mut placed = [0u16; SLOTS];
     let mut finger = [0u64; SLOTS];
-    let mut wait = [NO_NUMBER; SLOTS];
-    let mut low = [NO_NUMBER; SLOTS];
+    let mut wait = [NO_INDEX; SLOTS];
+    let mut low = [NO_INDEX; SLOTS];
     start(rows, chosen, n, &mut finger);
     let mut count = 0;
     let mut k = lowest_ready(

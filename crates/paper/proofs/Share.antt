@@ -8,32 +8,32 @@ use mathlib.Core.List.{List, [], _∷_, _++_, map, List·Memᴰ, List·Memᴰ·h
 use Rattle.paper.specs.Lists.{anyOf, pairs}
 use Rattle.paper.specs.Formula.{Label, has, Formula, Formulas, FALSE, test, candidate, conjunction, disjunction, exists, IF, only, _⨾_}
 use Rattle.paper.specs.Branch.{branches, ofEach, ofAny}
-use Rattle.paper.specs.Structure.Share.{Parts, toLeft, toRight, parts, holdsAll, someBranchHolds, eachHolds, anyHolds}
+use Rattle.paper.specs.Structure.Share.{Parting, toLeft, toRight, partings, holdsAll, someBranchHolds, eachHolds, anyHolds}
 use Rattle.paper.specs.Statements.{SharingSays}
 use Rattle.paper.proofs.Bools.{both, and-left, and-right, same-answer, pick}
 use Rattle.paper.proofs.Lists.{to-any, of-any, any-append, any-same, of-map, to-pairs, of-pairs}
 use Rattle.paper.proofs.Labels.{has-left, has-right, has-cases}
 
 -- b holds the left part and c the right one
-abbrev HeldApart : List Label → List Label → Parts → Type 0
+abbrev HeldApart : List Label → List Label → Parting → Type 0
 HeldApart b c p = (holdsAll b (p .left) ≡ true) × (holdsAll c (p .right) ≡ true)
 
-held-joined : (S b c : List Label) (p : Parts) → List·Memᴰ p (parts S) → HeldApart b c p → holdsAll (b ++ c) S ≡ true
+held-joined : (S b c : List Label) (p : Parting) → List·Memᴰ p (partings S) → HeldApart b c p → holdsAll (b ++ c) S ≡ true
 held-joined [] b c p t h = refl
 held-joined (x ∷ S) b c p t h =
-    pick (List·Memᴰ·append-cases (map (toLeft x) (parts S)) t)
-    (λ s. let (q, u, e) = of-map (toLeft x) (parts S) s in let (k, j) = subst (HeldApart b c) e h in
+    pick (List·Memᴰ·append-cases (map (toLeft x) (partings S)) t)
+    (λ s. let (q, u, e) = of-map (toLeft x) (partings S) s in let (k, j) = subst (HeldApart b c) e h in
     both (has (b ++ c) x) _ (has-left b c x (and-left (has b x) _ k)) (held-joined S b c q u (and-right (has b x) _ k, j)))
-    (λ s. let (q, u, e) = of-map (toRight x) (parts S) s in let (k, j) = subst (HeldApart b c) e h in
+    (λ s. let (q, u, e) = of-map (toRight x) (partings S) s in let (k, j) = subst (HeldApart b c) e h in
     both (has (b ++ c) x) _ (has-right b c x (and-left (has c x) _ j)) (held-joined S b c q u (k, and-right (has c x) _ j)))
 
-held-apart : (S b c : List Label) → holdsAll (b ++ c) S ≡ true → (p : Parts) × List·Memᴰ p (parts S) × HeldApart b c p
+held-apart : (S b c : List Label) → holdsAll (b ++ c) S ≡ true → (p : Parting) × List·Memᴰ p (partings S) × HeldApart b c p
 held-apart [] b c h = (record { left = []; right = [] }, List·Memᴰ·head refl, (refl, refl))
 held-apart (x ∷ S) b c h =
     let (p, t, (k, j)) = held-apart S b c (and-right (has (b ++ c) x) _ h) in
     pick (has-cases b c x (and-left (has (b ++ c) x) _ h))
-    (λ e. (toLeft x p, Memᴰ·append-left (map (toRight x) (parts S)) (Memᴰ·map (toLeft x) t), (both (has b x) _ e k, j)))
-    (λ e. (toRight x p, Memᴰ·append-right (map (toLeft x) (parts S)) (Memᴰ·map (toRight x) t), (k, both (has c x) _ e j)))
+    (λ e. (toLeft x p, Memᴰ·append-left (map (toRight x) (partings S)) (Memᴰ·map (toLeft x) t), (both (has b x) _ e k, j)))
+    (λ e. (toRight x p, Memᴰ·append-right (map (toLeft x) (partings S)) (Memᴰ·map (toRight x) t), (k, both (has c x) _ e j)))
 
 -- some of the branches holds the labels
 abbrev anyHeld : List (List Label) → List Label → Bool
@@ -42,20 +42,20 @@ anyHeld bs S = anyOf (λ b. holdsAll b S) bs
 -- two tests that say so of two lists of branches say it of the branches joined
 module _ (bs cs : List (List Label)) (f g : List Label → Bool)
     (left : (S : List Label) → f S ≡ anyHeld bs S) (right : (S : List Label) → g S ≡ anyHeld cs S) where
-  abbrev apart : Parts → Bool
+  abbrev apart : Parting → Bool
   apart p = f (p .left) && g (p .right)
 
-  held-of-pairs : (S : List Label) → anyOf apart (parts S) ≡ anyHeld (pairs bs cs) S
-  held-of-pairs S = same-answer (anyOf apart (parts S)) (anyHeld (pairs bs cs) S) there back
+  held-of-pairs : (S : List Label) → anyOf apart (partings S) ≡ anyHeld (pairs bs cs) S
+  held-of-pairs S = same-answer (anyOf apart (partings S)) (anyHeld (pairs bs cs) S) there back
     where
-      there : anyOf apart (parts S) ≡ true → anyHeld (pairs bs cs) S ≡ true
+      there : anyOf apart (partings S) ≡ true → anyHeld (pairs bs cs) S ≡ true
       there h =
-          let (p, t, k) = of-any apart (parts S) h in
+          let (p, t, k) = of-any apart (partings S) h in
           let (b, u, q) = of-any (λ b. holdsAll b (p .left)) bs (sym (left (p .left)) ∙ and-left (f (p .left)) _ k) in
           let (c, w, r) = of-any (λ c. holdsAll c (p .right)) cs (sym (right (p .right)) ∙ and-right (f (p .left)) _ k) in
           to-any (λ b. holdsAll b S) (to-pairs u w) (held-joined S b c p t (q, r))
 
-      back : anyHeld (pairs bs cs) S ≡ true → anyOf apart (parts S) ≡ true
+      back : anyHeld (pairs bs cs) S ≡ true → anyOf apart (partings S) ≡ true
       back h =
           let (b, t, k) = of-any (λ b. holdsAll b S) (pairs bs cs) h in
           let (c, d, u, w, e) = of-pairs bs cs t in

@@ -7,13 +7,14 @@ ghost use lib.ListN.{length, set, take, drop};
 ghost use Rattle.marks.specs.Marks.{isMarked};
 ghost use Rattle.marks.specs.Inside.Chosen.{AllBelow};
 ghost use Rattle.transitions.specs.Inside.Assigned.{keptOf, Fillable};
+use paper::Label;
 
 // Whether a label is kept.
-fn is_kept(kept: &[u8], label: u16) -> bool
-    requires { ⌜ label < length (now kept) ⌝ }
-    ensures { λ r. ⌜ r ≡ isMarked (now (kept .entry)) label ⌝ }
+fn is_kept(kept: &[u8], label: Label) -> bool
+    requires { ⌜ label .0 < length (now kept) ⌝ }
+    ensures { λ r. ⌜ r ≡ isMarked (now (kept .entry)) (label .0) ⌝ }
 {
-    let i = label as usize;
+    let i = label.0 as usize;
     kept[i] == 1
 }
 
@@ -36,19 +37,19 @@ pub fn count_kept(labels: &[u16], kept: &[u8]) -> usize
     let mut count = 0;
     let mut i = 0;
     while i < labels.len() {
-        count = one_more(count, is_kept(kept, labels[i]));
+        count = one_more(count, is_kept(kept, Label(labels[i])));
         i += 1;
     }
     count
 }
 
-// Puts a label at a place if so; gives the place after it.
-fn put(out: &mut [u16], at: usize, label: u16, so: bool) -> usize
+// Puts a label at a position if so; gives the position after it.
+fn put(out: &mut [u16], at: usize, label: Label, so: bool) -> usize
     requires { ⌜ (so ≡ true → at < length (now out)) ⌝ }
-    ensures { λ r. ⌜ (now (out .exit) ≡ cond so (set (now (out .entry)) at label) (now (out .entry))) × (r ≡ at + cond so 1 0) ⌝ }
+    ensures { λ r. ⌜ (now (out .exit) ≡ cond so (set (now (out .entry)) at (label .0)) (now (out .entry))) × (r ≡ at + cond so 1 0) ⌝ }
 {
     if so {
-        out[at] = label;
+        out[at] = label.0;
         return at + 1;
     }
     at
@@ -63,7 +64,7 @@ pub fn fill_assigned(order: &[u16], count: usize, kept: &[u8], out: &mut [u16]) 
     let mut filled = 0;
     let mut i = 0;
     while i < count {
-        let label = order[i];
+        let label = Label(order[i]);
         filled = put(out, filled, label, is_kept(kept, label));
         i += 1;
     }

@@ -8,12 +8,13 @@ use borrow.Fn.Kinds.{In}
 use borrow.Fn.PlainCycle.{Measures, is, falls, and}
 use Rattle.rows.proofs.Walks.{value-none, value-FALSE, value-test, value-candidate, row-there, row-few}
 use Rattle.rows.proofs.Walks.{row-known, Walking, walk-begins, walk-on, walk-turns, walk-ends}
-use Rattle.cover.specs.Inside.Masks.{unitMasks, masksFold}
+use Rattle.cover.specs.Inside.Masks.{masksFold}
 use Rattle.cover.proofs.masks_of.Reads as masks-of
 use Rattle.cover.proofs.masks_of.Kinds as kinds
 use Rattle.cover.proofs.+masks_of.Lts-masks_of as lts
 use Rattle.cover.proofs.join.Reads as join
 use Rattle.cover.proofs.leaf_of.Reads as leaf-of
+use Rattle.cover.proofs.nothing_chosen.Reads as nothing-chosen
 use Rattle.cover.proofs.unit_of.Reads as unit-of
 use Rattle.rows.proofs.arg_of.Reads as arg-of
 use Rattle.rows.proofs.end_of.Reads as end-of
@@ -40,14 +41,16 @@ abbrev μ-loop : lts.MeasureT-loop
 
 abbrev cs : ℕ → lts.Claims
 cs t = (
-  unit-of.Asked,
-  unit-of.Learnt,
+  nothing-chosen.Asked,
+  nothing-chosen.Learnt,
   kind-of.Asked,
   kind-of.Learnt,
   arg-of.Asked,
   arg-of.Learnt,
   leaf-of.Asked,
   leaf-of.Learnt,
+  unit-of.Asked,
+  unit-of.Learnt,
   expressions-of.Asked,
   expressions-of.Learnt,
   first-of.Asked,
@@ -61,21 +64,20 @@ cs t = (
 )
 
 module _ (t : ℕ) where
-  unit-of-requires : lts.Need-unit-of-requires (cs t) (here t) masks-of.Post Inv μ-loop
-  unit-of-requires c κs = search needs
+  nothing-chosen-requires : lts.Need-nothing-chosen-requires (cs t) (here t) masks-of.Post Inv μ-loop
+  nothing-chosen-requires c κs = search needs
 
   returns : lts.Need-returns (cs t) (here t) masks-of.Post Inv μ-loop
-  unfolding unitMasks
-  returns c = c .unit-of .ensures ∙ sym (value-none _ _ _ _ (c .before .if1 .taken))
+  returns c = c .nothing-chosen .ensures ∙ sym (value-none _ _ _ _ (c .before .if1 .taken))
 
   kind-of-requires : lts.Need-kind-of-requires (cs t) (here t) masks-of.Post Inv μ-loop
   kind-of-requires c κs = row-there (c .before .before .pre .1)
 
-  unit-of-requires-2 : lts.Need-unit-of-requires-2 (cs t) (here t) masks-of.Post Inv μ-loop
-  unit-of-requires-2 c κs = search needs
+  nothing-chosen-requires-2 : lts.Need-nothing-chosen-requires-2 (cs t) (here t) masks-of.Post Inv μ-loop
+  nothing-chosen-requires-2 c κs = search needs
 
-  unit-of-requires-3 : lts.Need-unit-of-requires-3 (cs t) (here t) masks-of.Post Inv μ-loop
-  unit-of-requires-3 c κs = search needs
+  nothing-chosen-requires-3 : lts.Need-nothing-chosen-requires-3 (cs t) (here t) masks-of.Post Inv μ-loop
+  nothing-chosen-requires-3 c κs = search needs
 
   arg-of-requires : lts.Need-arg-of-requires (cs t) (here t) masks-of.Post Inv μ-loop
   arg-of-requires c κs = row-there (c .before .before .before .before .pre .1)
@@ -83,8 +85,8 @@ module _ (t : ℕ) where
   leaf-of-requires : lts.Need-leaf-of-requires (cs t) (here t) masks-of.Post Inv μ-loop
   leaf-of-requires c κs = row-few (c .before .before .before .before .before .pre .1)
 
-  unit-of-requires-4 : lts.Need-unit-of-requires-4 (cs t) (here t) masks-of.Post Inv μ-loop
-  unit-of-requires-4 c κs = search needs
+  unit-of-requires : lts.Need-unit-of-requires (cs t) (here t) masks-of.Post Inv μ-loop
+  unit-of-requires c κs = search needs
 
   expressions-of-requires : lts.Need-expressions-of-requires (cs t) (here t) masks-of.Post Inv μ-loop
   expressions-of-requires c κs = row-there (c .before .before .before .before .before .before .pre .1)
@@ -122,20 +124,18 @@ module _ (t : ℕ) where
       let b = c .before .before .before in
       walk-turns (b .before .loop .inv) (b .loop-test .taken) (c .before .before .masks-of .ensures) (c .before .join .ensures) (c .end-of .ensures)
 
-  unit-of-requires-5 : lts.Need-unit-of-requires-5 (cs t) (here t) masks-of.Post Inv μ-loop
-  unit-of-requires-5 c κs = search needs
+  nothing-chosen-requires-4 : lts.Need-nothing-chosen-requires-4 (cs t) (here t) masks-of.Post Inv μ-loop
+  nothing-chosen-requires-4 c κs = search needs
 
   returns-2 : lts.Need-returns-2 (cs t) (here t) masks-of.Post Inv μ-loop
-  unfolding unitMasks
   returns-2 c =
       let s = c .before in
-      c .unit-of2 .ensures ∙ sym (value-FALSE _ _ _ _ (s .before .before .if1 .left) (sym (s .before .kind-of .ensures) ∙ s .match .keys1))
+      c .nothing-chosen2 .ensures ∙ sym (value-FALSE _ _ _ _ (s .before .before .if1 .left) (sym (s .before .kind-of .ensures) ∙ s .match .keys1))
 
   returns-3 : lts.Need-returns-3 (cs t) (here t) masks-of.Post Inv μ-loop
-  unfolding unitMasks
   returns-3 c =
       let s = c .before in
-      c .unit-of3 .ensures ∙ sym (value-test _ _ _ _ (s .before .before .if1 .left) (sym (s .before .kind-of .ensures) ∙ s .match .keys2))
+      c .nothing-chosen3 .ensures ∙ sym (value-test _ _ _ _ (s .before .before .if1 .left) (sym (s .before .kind-of .ensures) ∙ s .match .keys2))
 
   returns-4 : lts.Need-returns-4 (cs t) (here t) masks-of.Post Inv μ-loop
   returns-4 c =
@@ -148,7 +148,7 @@ module _ (t : ℕ) where
       let b = c .before .before in
       let s = b .before .before .before .before in
       walk-ends (s .before .before .before .before .pre .1) (c .before .loop .inv) (c .loop-test .left) (s .before .before .if1 .left)
-      (s .before .kind-of .ensures) (omega (arith, s .match)) (b .before .before .unit-of4 .ensures) (b .before .expressions-of .ensures) (b .first-of .ensures)
+      (s .before .kind-of .ensures) (omega (arith, s .match)) (b .before .before .unit-of .ensures) (b .before .expressions-of .ensures) (b .first-of .ensures)
 
   returns-6 : lts.Need-returns-6 (cs t) (here t) masks-of.Post Inv μ-loop
   returns-6 c = absurd (omega (arith, c .before .before .before .kind-of .ensures, row-known (c .before .before .before .before .before .before .pre .1)))
@@ -157,14 +157,14 @@ pub +masks-of-spec : {M : Type 1} → statement M
 +masks-of-spec =
     close μ λ t.
     lts.spec (cs t) (here t) masks-of.Post Inv μ-loop
-    (unit-of-requires t)
+    (nothing-chosen-requires t)
     (returns t)
     (kind-of-requires t)
-    (unit-of-requires-2 t)
-    (unit-of-requires-3 t)
+    (nothing-chosen-requires-2 t)
+    (nothing-chosen-requires-3 t)
     (arg-of-requires t)
     (leaf-of-requires t)
-    (unit-of-requires-4 t)
+    (unit-of-requires t)
     (expressions-of-requires t)
     (first-of-requires t)
     (loop-holds t)
@@ -175,7 +175,7 @@ pub +masks-of-spec : {M : Type 1} → statement M
     (sub-m t)
     (loop-less t)
     (loop-again t)
-    (unit-of-requires-5 t)
+    (nothing-chosen-requires-4 t)
     (returns-2 t)
     (returns-3 t)
     (returns-4 t)

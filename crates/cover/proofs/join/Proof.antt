@@ -1,4 +1,4 @@
--- `join` gives the words of a join: its four returns are the definition's four cases.
+-- `join` gives the masks of a join: its four returns are the definition's four cases.
 use Rattle.cover.specs.Inside.Masks.{joinMasks}
 use Rattle.cover.proofs.join.Statement.{statement}
 use Rattle.cover.proofs.join.Tie as tie

@@ -21,27 +21,31 @@ use Rattle.marks.specs.Marks.{isMarked}
 abbrev pub allBits : ℕ
 allBits = 18446744073709551615
 
-abbrev pub words : Bool → ℕ → ℕ → ℕ → Masks
-words l a e t = record { live = l; always = a; ever = e; twice = t }
+abbrev pub asMasks : Bool → ℕ → ℕ → ℕ → Masks
+asMasks l a e t = record { live = l; always = a; ever = e; twice = t }
 
 -- one branch that has a chosen candidate of the variables of a mask
 abbrev pub leafMasks : ℕ → Masks
-leafMasks mask = words true mask mask 0
+leafMasks mask = asMasks true mask mask 0
+
+-- one branch with no chosen label
+abbrev pub nothingChosen : Masks
+nothingChosen = leafMasks 0
 
 -- a conjunction starts from one branch with nothing on it, any other join from no branch
 unfoldable pub unitMasks : Bool → Masks
-unitMasks true = words true 0 0 0
-unitMasks false = words false allBits 0 0
+unitMasks true = asMasks true 0 0 0
+unitMasks false = asMasks false allBits 0 0
 
 abbrev pub bothMasks : Bool → Bool → Masks → Masks → Masks
 bothMasks true true a b =
-    words true (bitOr (a .always) (b .always)) (bitOr (a .ever) (b .ever)) (bitOr (bitOr (a .twice) (b .twice)) (bitAnd (a .ever) (b .ever)))
+    asMasks true (bitOr (a .always) (b .always)) (bitOr (a .ever) (b .ever)) (bitOr (bitOr (a .twice) (b .twice)) (bitAnd (a .ever) (b .ever)))
 bothMasks true false a b = b
 bothMasks false live a b = a
 
 unfoldable pub joinMasks : Bool → Masks → Masks → Masks
 joinMasks true a b = bothMasks (a .live) (b .live) a b
-joinMasks false a b = words (a .live || b .live) (bitAnd (a .always) (b .always)) (bitOr (a .ever) (b .ever)) (bitOr (a .twice) (b .twice))
+joinMasks false a b = asMasks (a .live || b .live) (bitAnd (a .always) (b .always)) (bitOr (a .ever) (b .ever)) (bitOr (a .twice) (b .twice))
 
 -- the bit of a chosen candidate whose variable is of the block, else no bit
 unfoldable pub maskOf : List ℕ → ℕ → ℕ → ℕ → ℕ
@@ -49,14 +53,14 @@ maskOf marks block l v = cond (eqb (v / 64) block && isMarked marks l) (2 ^ (v %
 
 abbrev pub masksFold : List ℕ → ℕ → Fold Masks
 masksFold marks block = record {
-  atFALSE = λ l. leafMasks 0;
-  atTest = λ l. leafMasks 0;
+  atFALSE = λ l. nothingChosen;
+  atTest = λ l. nothingChosen;
   atCandidate = λ l v. leafMasks (maskOf marks block (l .0) (v .0));
   unit = unitMasks;
   join = joinMasks;
 }
 
--- the words of the formula that rows write, for the variables of a block
+-- the masks of the formula that rows write, for the variables of a block
 abbrev pub masksAt : List ℕ → List ℕ → ℕ → ℕ → ℕ → Masks
 masksAt rows marks block left i = valueAt (masksFold marks block) rows left i
 

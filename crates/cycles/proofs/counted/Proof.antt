@@ -1,4 +1,4 @@
--- Two numbers or more are settled; a single one changes nothing.
+-- Two indices or more are settled; a single one changes nothing.
 use native.Mathlib.Omega.{arith}
 use mathlib.Core.Path.{refl}
 use borrow.Author.Needs.{needs}

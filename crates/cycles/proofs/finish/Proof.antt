@@ -1,4 +1,4 @@
--- The loop's invariant: the numbers from `from` up to position p are marked.
+-- The loop's invariant: the indices from `from` up to position p are marked.
 use Prim.Native.Nat.{_≤_, _-_}
 use native.Mathlib.Omega.{arith}
 use mathlib.Core.Path.{_≡_}

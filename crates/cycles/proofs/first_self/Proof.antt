@@ -1,4 +1,4 @@
--- The loop's invariant: no number below j is before itself.
+-- The loop's invariant: no index below j is before itself.
 use Prim.Native.Nat.{ℕ, _-_, _<_, _≤_}
 use native.Mathlib.Omega.{arith}
 use mathlib.Core.Path.{_≡_, sym, _∙_}

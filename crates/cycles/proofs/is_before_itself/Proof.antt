@@ -7,7 +7,7 @@ use Rattle.rows.specs.Rows.{fromOf}
 use Rattle.net.specs.Inside.Prior.{prior}
 use Rattle.fingers.specs.Inside.Spots.{IsSpot}
 use Rattle.fingers.proofs.GoesOn.{stop-in}
-use Rattle.cycles.proofs.Itself.{below, below-none, below-read, outer-place, outer-lower, below-outer, own-place, below-own}
+use Rattle.cycles.proofs.Itself.{below, below-none, below-read, outer-spot, outer-lower, below-outer, own-spot, below-own}
 use borrow.Author.Needs.{needs}
 use Rattle.cycles.proofs.is_before_itself.Statement.{statement}
 use Rattle.cycles.proofs.is_before_itself.Tie as tie
@@ -44,7 +44,7 @@ add-t12 c =
 loop-holds : tie.Need-loop-holds Inv-loop μ-loop
 loop-holds c =
     let a = c .before .before .before .before .before .before .pre in
-    (own-place _ _ _ _ _ _ (a .0) (a .1), below-own _ _ _ _ _ _ (a .0) (a .1))
+    (own-spot _ _ _ _ _ _ (a .0) (a .1), below-own _ _ _ _ _ _ (a .0) (a .1))
 
 from-of-requires : tie.Need-from-of-requires Inv-loop μ-loop
 from-of-requires c κs =
@@ -113,7 +113,7 @@ loop-again c =
     let t = if1 .taken in
     let g = ap (λ (l : Label). l .0) (c .guard-of .ensures) in
     let e = rw (wide .ensures ∙ from-of .ensures, stop-of .ensures, arg-of .ensures) at (is-read .ensures) in
-    (rw g (outer-place _ _ _ _ _ (a .0) _ (v .0) t), rw g (below-outer _ _ _ _ _ _ (a .0) _ (v .0) t (sym e ∙ c .before .if2 .left) (a .1) ∙ v .1))
+    (rw g (outer-spot _ _ _ _ _ (a .0) _ (v .0) t), rw g (below-outer _ _ _ _ _ _ (a .0) _ (v .0) t (sym e ∙ c .before .if2 .left) (a .1) ∙ v .1))
 
 returns-2 : tie.Need-returns-2 Inv-loop μ-loop
 returns-2 c = sym (sym (c .before .before .loop .inv .1) ∙ below-none _ _ _ _ _ (c .if1 .left))

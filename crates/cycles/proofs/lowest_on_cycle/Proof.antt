@@ -1,4 +1,4 @@
--- The loop's invariant: the path is empty, `best` is as it should be, and the numbers below root are not new.
+-- The loop's invariant: the path is empty, `best` is as it should be, and the indices below root are not new.
 use Prim.Native.Nat.{ℕ, _-_, _<_, _≤_}
 use native.Mathlib.Omega.{arith}
 use mathlib.Core.Path.{_≡_, refl, _∙_}

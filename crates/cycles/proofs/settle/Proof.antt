@@ -1,4 +1,4 @@
--- The loop's invariant: r is the least of `best` and the numbers from `from` up to position p.
+-- The loop's invariant: r is the least of `best` and the indices from `from` up to position p.
 use Prim.Native.Nat.{_≤_, _-_}
 use native.Mathlib.Omega.{arith}
 use mathlib.Core.Path.{_≡_}

@@ -1,8 +1,8 @@
--- Each way out of a step has its law: the last segment is done, its number's finger has run out, a new number is put on the path,
+-- Each way out of a step has its law: the last segment is done, its index's finger has run out, a new index is put on the path,
 -- or segments join.
 use native.Mathlib.Omega.{arith}
 use Rattle.cycles.proofs.Walks.{outside-yes}
-use Rattle.cycles.proofs.Steps.{ahead-of, bound-in, number-in, two-or-more, step-pop, step-back, step-push, step-merge}
+use Rattle.cycles.proofs.Steps.{ahead-of, bound-in, index-in, two-or-more, step-pop, step-back, step-push, step-merge}
 use borrow.Author.Needs.{needs}
 use Rattle.cycles.proofs.step.Statement.{statement}
 use Rattle.cycles.proofs.step.Tie as tie
@@ -70,7 +70,7 @@ cast-j c =
     let a = c .before .before .before .before .before .before .pre in
     let h = a .2 .some (a .1) in
     let u = ahead-of _ _ _ _ _ _ _ _ (a .2) h (c .before .if1 .left) in
-    let j = number-in _ _ _ _ _ _ _ _ (a .2) h u in
+    let j = index-in _ _ _ _ _ _ _ _ (a .2) h u in
     omega (arith, a .0 .choice .few)
 
 mul-seek : tie.Need-mul-seek
@@ -78,7 +78,7 @@ mul-seek c =
     let a = c .before .before .before .before .before .before .before .pre in
     let h = a .2 .some (a .1) in
     let u = ahead-of _ _ _ _ _ _ _ _ (a .2) h (c .before .before .if1 .left) in
-    let j = number-in _ _ _ _ _ _ _ _ (a .2) h u in
+    let j = index-in _ _ _ _ _ _ _ _ (a .2) h u in
     omega (arith, a .0 .choice .few)
 
 element-copy-out-seek : tie.Need-element-copy-out-seek
@@ -86,7 +86,7 @@ element-copy-out-seek c =
     let a = c .before .before .before .before .before .before .before .pre in
     let h = a .2 .some (a .1) in
     let u = ahead-of _ _ _ _ _ _ _ _ (a .2) h (c .before .before .if1 .left) in
-    let j = number-in _ _ _ _ _ _ _ _ (a .2) h u in
+    let j = index-in _ _ _ _ _ _ _ _ (a .2) h u in
     omega (arith, a .0 .choice .few)
 
 seek-requires : tie.Need-seek-requires
@@ -94,7 +94,7 @@ seek-requires c κs =
     let a = c .before .before .before .before .before .before .before .before .pre in
     let h = a .2 .some (a .1) in
     let u = ahead-of _ _ _ _ _ _ _ _ (a .2) h (c .before .before .before .if1 .left) in
-    let j = number-in _ _ _ _ _ _ _ _ (a .2) h u in
+    let j = index-in _ _ _ _ _ _ _ _ (a .2) h u in
     let b = bound-in _ _ _ _ _ _ _ _ (a .2) h in
     (a .0, record { low = omega (arith, b .0, b .1, a .0 .choice .few); here = j; finger = a .2 .within _ j })
 
@@ -103,7 +103,7 @@ mul-finger c =
     let a = c .before .before .before .before .before .before .before .before .before .pre in
     let h = a .2 .some (a .1) in
     let u = ahead-of _ _ _ _ _ _ _ _ (a .2) h (c .before .before .before .before .if1 .left) in
-    let j = number-in _ _ _ _ _ _ _ _ (a .2) h u in
+    let j = index-in _ _ _ _ _ _ _ _ (a .2) h u in
     omega (arith, a .0 .choice .few)
 
 element-write-finger : tie.Need-element-write-finger
@@ -111,7 +111,7 @@ element-write-finger c =
     let a = c .before .before .before .before .before .before .before .before .before .pre in
     let h = a .2 .some (a .1) in
     let u = ahead-of _ _ _ _ _ _ _ _ (a .2) h (c .before .before .before .before .if1 .left) in
-    let j = number-in _ _ _ _ _ _ _ _ (a .2) h u in
+    let j = index-in _ _ _ _ _ _ _ _ (a .2) h u in
     omega (arith, a .0 .choice .few)
 
 sub-w-2 : tie.Need-sub-w-2

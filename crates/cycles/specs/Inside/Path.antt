@@ -18,7 +18,7 @@ pub data Trail (g : Graph) : ℕ → ℕ → Type 0 where
   here : {i : ℕ} → Trail g i i
   step : {i k j : ℕ} → i < g .size → g .before i k ≡ true → Trail g k j → Trail g i j
 
--- The path has len numbers, in top segments, each from its bound on; from `at` on the fingers have run out.
+-- The path has len indices, in top segments, each from its bound on; from `at` on the fingers have run out.
 pub record Walked (g : Graph) (mark stack bound finger : List ℕ) (len top at : ℕ) : Type 0 where
   pub small : g .size < slots
   pub marks : length mark ≡ slots
@@ -35,9 +35,9 @@ pub record Walked (g : Graph) (mark stack bound finger : List ℕ) (len top at :
   pub low : (k : ℕ) → k < top → getD bound k 0 < len
   pub rising : (k l : ℕ) → k < l → l < top → getD bound k 0 < getD bound l 0
   pub tops : top ≤ len
-  -- a number leads to each number of its own segment and of those below
+  -- an index leads to each index of its own segment and of those below
   pub reach : (p r : ℕ) → p < len → r < len → ((k : ℕ) → k < top → getD bound k 0 ≤ p → getD bound k 0 ≤ r) → Trail g (getD stack r 0) (getD stack p 0)
-  -- what a finger passed is done, or in the number's segment or above it
+  -- what a finger passed is done, or in the index's segment or above it
   pub within : (j : ℕ) → j < g .size → g .Finger j (getD finger j 0)
   pub fresh : (j : ℕ) → j < g .size → getD mark j 0 ≡ 0 → (i : ℕ) → i < g .size → g .passed j (getD finger j 0) i ≡ true → g .before i j ≡ false
   pub passed : (p : ℕ) → p < len → (i : ℕ) → i < g .size → g .passed (getD stack p 0) (getD finger (getD stack p 0) 0) i ≡ true
@@ -49,14 +49,14 @@ pub record Walked (g : Graph) (mark stack bound finger : List ℕ) (len top at :
   pub high : (k : ℕ) → k < top → getD bound k 0 ≤ at
   pub spent : (p : ℕ) → at ≤ p → p < len → (i : ℕ) → i < g .size → g .passed (getD stack p 0) (getD finger (getD stack p 0) 0) i ≡ true
 
--- best is the lowest number that is known to be on a cycle, or the size: lower than any that is before itself or is done and on one
+-- best is the lowest index that is known to be on a cycle, or the size: lower than any that is before itself or is done and on one
 pub record Best (g : Graph) (mark : List ℕ) (best : ℕ) : Type 0 where
   pub to : best ≤ g .size
   pub cyclic : best < g .size → isOnRing g best ≡ true
   pub self : (i : ℕ) → i < g .size → g .before i i ≡ true → best ≤ i
   pub least : (i : ℕ) → i < g .size → getD mark i 0 ≡ 1 → isOnRing g i ≡ true → best ≤ i
 
--- how far the walk has to go: new numbers, segments, numbers whose fingers may move
+-- how far the walk has to go: new indices, segments, indices whose fingers may move
 unfoldable pub weight : Graph → List ℕ → ℕ → ℕ → ℕ
 weight g mark top at = length (leftOf (g .size) mark) * 4198401 + top * 2049 + at
 
@@ -64,19 +64,19 @@ weight g mark top at = length (leftOf (g .size) mark) * 4198401 + top * 2049 + a
 abbrev pub Grown : Graph → List ℕ → List ℕ → Type 0
 Grown g mark mark′ = (i : ℕ) → i < g .size → free mark′ i ≡ true → free mark i ≡ true
 
--- the numbers of the path from `from` on are marked as done
+-- the indices of the path from `from` on are marked as done
 pub record Finished (mark stack : List ℕ) (from len : ℕ) (mark′ : List ℕ) : Type 0 where
   pub size : length mark′ ≡ length mark
   pub hit : (p : ℕ) → p < len → from ≤ p → getD mark′ (getD stack p 0) 0 ≡ 1
   pub miss : (i : ℕ) → ((p : ℕ) → p < len → from ≤ p → i ≡ getD stack p 0 → ⊥) → getD mark′ i 0 ≡ getD mark i 0
 
--- r is the least of best and the numbers of the path from `from` on
+-- r is the least of best and the indices of the path from `from` on
 pub record Settled (stack : List ℕ) (from len best r : ℕ) : Type 0 where
   pub not-above : r ≤ best
   pub all : (p : ℕ) → p < len → from ≤ p → r ≤ getD stack p 0
   pub one : (r ≡ best → ⊥) → (p : ℕ) × (p < len) × (from ≤ p) × (r ≡ getD stack p 0)
 
--- after the segment from `from` on is settled: its numbers count if they are two or more
+-- after the segment from `from` on is settled: its indices count if they are two or more
 pub record Counted (stack : List ℕ) (from len best r : ℕ) : Type 0 where
   pub many : from + 1 < len → Settled stack from len best r
   pub single : len ≤ from + 1 → r ≡ best
@@ -102,7 +102,7 @@ pub record Explored (g : Graph) (root : ℕ) (mark mark′ stack bound finger : 
   pub grown : Grown g mark mark′
   pub taken : free mark′ root ≡ false
 
--- r is the lowest number that is before itself, or the size
+-- r is the lowest index that is before itself, or the size
 pub record Selfless (g : Graph) (r : ℕ) : Type 0 where
   pub to : r ≤ g .size
   pub none : (i : ℕ) → i < r → g .before i i ≡ false

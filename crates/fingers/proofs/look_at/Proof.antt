@@ -5,27 +5,27 @@ use borrow.Author.Needs.{needs}
 use Rattle.fingers.proofs.look_at.Statement.{statement}
 use Rattle.fingers.proofs.look_at.Tie as tie
 
-mul-t10 : tie.Need-mul-t10
-mul-t10 c = search needs
+mul-t12 : tie.Need-mul-t12
+mul-t12 c = search needs
 
-shared-slice-read-t12 : tie.Need-shared-slice-read-t12
-shared-slice-read-t12 c = search needs
+shared-slice-read-t14 : tie.Need-shared-slice-read-t14
+shared-slice-read-t14 c = search needs
 
 returns : tie.Need-returns
 returns c =
-    let entry = c .before .before .before .before .before .before .before .before .before in
+    let entry = c .before .before .before .before .before .before .before .before .before .before .before in
     let if1 = c .before .before .before .if1 in
     look-known _ _ _ _ _ _ (entry .pre .4) (if1 .taken) (c .if2 .taken)
 
-mul-t10-2 : tie.Need-mul-t10-2
-mul-t10-2 c = search needs
+mul-t12-2 : tie.Need-mul-t12-2
+mul-t12-2 c = search needs
 
-shared-slice-read-t12-2 : tie.Need-shared-slice-read-t12-2
-shared-slice-read-t12-2 c = search needs
+shared-slice-read-t14-2 : tie.Need-shared-slice-read-t14-2
+shared-slice-read-t14-2 c = search needs
 
 clear-of-requires : tie.Need-clear-of-requires
 clear-of-requires c κs =
-    let a = c .before .before .before .before .before .before .before .pre in
+    let a = c .before .before .before .before .before .before .before .before .before .pre in
     let x = a .0 .below _ (a .2) in
     let y = a .0 .below _ (a .3) in
     (a .0 .tree, a .1 .parents, omega arith, omega arith, a .0 .candidates _ (a .2), a .0 .candidates _ (a .3))
@@ -37,10 +37,10 @@ pub look-at-spec : {M : Type 1} → statement M
 look-at-spec =
     tie.close
     (tie.spec
-    mul-t10
-    shared-slice-read-t12
+    mul-t12
+    shared-slice-read-t14
     returns
-    mul-t10-2
-    shared-slice-read-t12-2
+    mul-t12-2
+    shared-slice-read-t14-2
     clear-of-requires
     returns-2)

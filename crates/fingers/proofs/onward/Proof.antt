@@ -1,8 +1,8 @@
--- Past a number, into the next read, or out to the guard around: the place after, in each case by what the net notes.
+-- Past an index, into the next read, or out to the guard around: the spot after, in each case by what the net notes.
 use native.Mathlib.Omega.{arith}
 use mathlib.Core.Path.{ap, _∙_}
 use Rattle.paper.specs.declared.Label.{Label}
-use Rattle.fingers.proofs.GoesOn.{stop-in, after-number, after-read, after-star}
+use Rattle.fingers.proofs.GoesOn.{stop-in, after-index, after-read, after-star}
 use borrow.Author.Needs.{needs}
 use Rattle.fingers.proofs.onward.Statement.{statement}
 use Rattle.fingers.proofs.onward.Tie as tie
@@ -15,7 +15,7 @@ returns c =
     let R = c .before .before .before .before .before .before .pre .0 in
     let P = c .before .before .before .before .before .before .pre .1 in
     let h = c .before .before .before .before .before .before .pre .2 in
-    rw (c .next-of .ensures) (after-number _ _ _ _ _ R _ _ _ P h (c .before .if1 .taken))
+    rw (c .next-of .ensures) (after-index _ _ _ _ _ R _ _ _ P h (c .before .if1 .taken))
 
 stop-of-requires : tie.Need-stop-of-requires
 stop-of-requires c κs = search needs
@@ -39,8 +39,8 @@ shared-slice-read-t17 c =
 add-t15 : tie.Need-add-t15
 add-t15 c = search needs
 
-first-of-requires : tie.Need-first-of-requires
-first-of-requires c κs =
+first-with-requires : tie.Need-first-with-requires
+first-with-requires c κs =
     let R = c .before .before .before .before .before .before .before .before .pre .0 in
     let P = c .before .before .before .before .before .before .before .before .pre .1 in
     let h = c .before .before .before .before .before .before .before .before .pre .2 in
@@ -56,7 +56,7 @@ returns-2 c =
     let R = entry .pre .0 in
     let P = entry .pre .1 in
     let h = entry .pre .2 in
-    rw (c .first-of .ensures) (after-read _ _ _ _ _ R _ _ _ P h (if1 .left) (omega (arith, if2 .taken, stop-of .ensures)))
+    rw (c .first-with .ensures) (after-read _ _ _ _ _ R _ _ _ P h (if1 .left) (omega (arith, if2 .taken, stop-of .ensures)))
 
 guard-of-requires : tie.Need-guard-of-requires
 guard-of-requires c κs = search needs
@@ -69,7 +69,7 @@ from-of-requires c κs =
     let R = entry .pre .0 in
     let P = entry .pre .1 in
     let h = entry .pre .2 in
-    let z = after-star _ _ _ _ _ R _ _ _ P h (if1 .left) (omega (arith, c .before .if2 .left, stop-of .ensures)) .place .star in
+    let z = after-star _ _ _ _ _ R _ _ _ P h (if1 .left) (omega (arith, c .before .if2 .left, stop-of .ensures)) .spot .star in
     omega (arith, ap (λ (l : Label). l .0) (c .guard-of .ensures), R .choice .tree .nested .room)
 
 wide-requires : tie.Need-wide-requires
@@ -99,7 +99,7 @@ onward-spec =
     mul-t15
     shared-slice-read-t17
     add-t15
-    first-of-requires
+    first-with-requires
     returns-2
     guard-of-requires
     from-of-requires

@@ -1,5 +1,5 @@
 -- The loop's invariant: what was passed from the finger on and is open is not before j, and what is found from the finger on is found
--- from the place on. The measure is how far the place is from the end.
+-- from the spot on. The measure is how far the spot is from the end.
 use Prim.Native.Nat.{_/_, _%_}
 use native.Mathlib.Omega.{arith}
 use mathlib.Core.Path.{sym, _∙_}
@@ -13,7 +13,7 @@ use Rattle.fingers.proofs.seek.Tie as tie
 abbrev Inv-loop : tie.InvT-loop
 Inv-loop rows reads chosen net n mark b j finger p₀ seen₀ p seen =
     Sought rows reads chosen n (outside mark b) j (finger / 4294967296) (finger / 65536 % 65536) (finger % 65536) (p .star .0) (p .read) (p .next)
-    × Apart rows chosen j (seen .from) (seen .to)
+    × Apart rows chosen j (seen .from .0) (seen .to .0)
 
 abbrev μ-loop : tie.MeasureT-loop
 μ-loop rows reads chosen net n mark b j finger p₀ seen₀ p seen = ahead rows chosen (p .star .0) (p .read) (p .next)
@@ -22,7 +22,7 @@ spot-of-requires : tie.Need-spot-of-requires Inv-loop μ-loop
 unfolding fingerOf
 spot-of-requires c κs =
     let R = c .before .before .before .pre .0 in
-    let z = c .before .before .before .pre .1 .finger .place .star in
+    let z = c .before .before .before .pre .1 .finger .spot .star in
     omega (arith, R .choice .tree .nested .few)
 
 loop-holds : tie.Need-loop-holds Inv-loop μ-loop
@@ -40,9 +40,9 @@ look-requires c κs =
 pack-requires : tie.Need-pack-requires Inv-loop μ-loop
 pack-requires c κs =
     let R = c .before .before .before .before .before .before .before .before .before .pre .0 in
-    let P = c .before .before .before .before .loop .inv .0 .at .place in
+    let P = c .before .before .before .before .loop .inv .0 .at .spot in
     let h = c .before .before .if1 .taken in
-    (let z = P .read h in omega arith, omega (arith, P .number, R .choice .few))
+    (let z = P .read h in omega arith, omega (arith, P .index, R .choice .few))
 
 returns : tie.Need-returns Inv-loop μ-loop
 returns c =
@@ -59,7 +59,7 @@ onward-requires c κs =
     let entry = c .before .before .before .before .before .before .before .before .before in
     let loop = c .before .before .before .before .loop in
     let if1 = c .before .before .if1 in
-    (entry .pre .0, loop .inv .0 .at .place, if1 .taken)
+    (entry .pre .0, loop .inv .0 .at .spot, if1 .taken)
 
 loop-less : tie.Need-loop-less Inv-loop μ-loop
 loop-less c = search needs

@@ -1,4 +1,4 @@
--- The loop's invariant: the fingers of the numbers below j are at their starts, and the words from j on are as they were.
+-- The loop's invariant: the fingers of the indices below j are at their starts, and the words from j on are as they were.
 use Prim.Native.Nat.{_-_, _≤_}
 use native.Mathlib.Omega.{arith}
 use mathlib.Core.Path.{refl, _∙_}

@@ -1,4 +1,4 @@
--- A relation "before" between the numbers below a size, and fingers by which what comes before a number is gone through.
+-- A relation "before" between the indices below a size, and fingers by which what comes before an index is gone through.
 -- Nothing here knows of rows: the order and the search for cycles rest on `Next` alone.
 use Prim.Native.Nat.{ℕ, _+_, _<_, _≤_}
 use mathlib.Core.Bool.{Bool, true, false, _&&_, not}
@@ -17,7 +17,7 @@ pub record Graph : Type 1 where
   pub passed : ℕ → ℕ → ℕ → Bool
   pub Finger : ℕ → ℕ → Type 0
 
--- From finger p on, f is a finger whose number l is open and before j, and none passed was; or l is the size and f has
+-- From finger p on, f is a finger whose index l is open and before j, and none passed was; or l is the size and f has
 -- passed all.
 pub record Next (g : Graph) (isOpen : ℕ → Bool) (j p f l : ℕ) : Type 0 where
   pub good : g .Finger j f
@@ -34,11 +34,11 @@ free mark i = eqb (getD mark i 0) 0
 unfoldable pub outside : List ℕ → ℕ → ℕ → Bool
 outside mark b i = not (eqb (getD mark i 0) 1) && ltb (getD mark i 0) (b + 2)
 
--- the new numbers below n
+-- the new indices below n
 unfoldable pub leftOf : ℕ → List ℕ → List ℕ
 leftOf n mark = those (free mark) (upTo n)
 
--- every finger is one of its number, and nothing that it has passed is before that number
+-- every finger is one of its index, and nothing that it has passed is before that index
 pub record Started (g : Graph) (finger : List ℕ) : Type 0 where
   pub size : length finger ≡ slots
   pub within : (j : ℕ) → j < g .size → g .Finger j (getD finger j 0)

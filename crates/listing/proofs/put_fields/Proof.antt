@@ -21,11 +21,11 @@ loop-holds : tie.Need-loop-holds Inv-loop μ-loop
 unfolding fields
 loop-holds c = putting-starts refl (omega arith)
 
-mul-put-label : tie.Need-mul-put-label Inv-loop μ-loop
-mul-put-label c = search needs
+mul-t6 : tie.Need-mul-t6 Inv-loop μ-loop
+mul-t6 c = search needs
 
-shared-slice-read-put-label : tie.Need-shared-slice-read-put-label Inv-loop μ-loop
-shared-slice-read-put-label c = search needs
+shared-slice-read-t11 : tie.Need-shared-slice-read-t11 Inv-loop μ-loop
+shared-slice-read-t11 c = search needs
 
 put-label-requires : tie.Need-put-label-requires Inv-loop μ-loop
 put-label-requires c κs = search needs
@@ -56,8 +56,8 @@ put-fields-spec =
     Inv-loop
     μ-loop
     loop-holds
-    mul-put-label
-    shared-slice-read-put-label
+    mul-t6
+    shared-slice-read-t11
     put-label-requires
     add-i
     loop-less

@@ -23,8 +23,8 @@ loop-holds : tie.Need-loop-holds Inv-loop μ-loop
 unfolding fields positionsFrom positions
 loop-holds c = putting-starts refl (omega arith)
 
-cast-put-position : tie.Need-cast-put-position Inv-loop μ-loop
-cast-put-position c = search needs
+cast-t10 : tie.Need-cast-t10 Inv-loop μ-loop
+cast-t10 c = search needs
 
 shared-slice-read-put-position : tie.Need-shared-slice-read-put-position Inv-loop μ-loop
 shared-slice-read-put-position c = search needs
@@ -58,7 +58,7 @@ put-kept-fields-spec =
     Inv-loop
     μ-loop
     loop-holds
-    cast-put-position
+    cast-t10
     shared-slice-read-put-position
     put-position-requires
     add-i

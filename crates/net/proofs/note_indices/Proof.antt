@@ -1,4 +1,4 @@
--- The chains of chosen labels are noted from the last label down: those from number k on are linked.
+-- The chains of chosen labels are noted from the last label down: those from index k on are linked.
 use Prim.Native.Nat.{_-_, _<_, _≤_}
 use native.Mathlib.Omega.{arith}
 use mathlib.Core.Path.{_≡_, _∙_}
@@ -59,8 +59,8 @@ module _ (c : tie.After-wide Inv-loop μ-loop) where
       let b = l .before .before .before .before .before .pre .0 .variables (l .loop .k - 1) (omega arith) in
       omega arith
 
-add-net : tie.Need-add-net Inv-loop μ-loop
-add-net c = let l = low c in omega arith
+add-first : tie.Need-add-first Inv-loop μ-loop
+add-first c = let l = low c in omega arith
 
 mul-net-2 : tie.Need-mul-net-2 Inv-loop μ-loop
 mul-net-2 c = let l = low c in omega arith
@@ -68,8 +68,8 @@ mul-net-2 c = let l = low c in omega arith
 element-copy-out-net : tie.Need-element-copy-out-net Inv-loop μ-loop
 element-copy-out-net c = let l = low c in omega arith
 
-add-net-2 : tie.Need-add-net-2 Inv-loop μ-loop
-add-net-2 c = search needs
+add-net : tie.Need-add-net Inv-loop μ-loop
+add-net c = search needs
 
 mul-net-3 : tie.Need-mul-net-3 Inv-loop μ-loop
 mul-net-3 c = search needs
@@ -79,9 +79,6 @@ element-write-net c = search needs
 
 cast-net : tie.Need-cast-net Inv-loop μ-loop
 cast-net c = search needs
-
-add-net-3 : tie.Need-add-net-3 Inv-loop μ-loop
-add-net-3 c = let l = low (c .before) in omega arith
 
 mul-net-4 : tie.Need-mul-net-4 Inv-loop μ-loop
 mul-net-4 c = let l = low (c .before) in omega arith
@@ -120,14 +117,13 @@ note-indices-spec =
     shared-slice-read-net
     arg-of-requires
     wide-requires
-    add-net
+    add-first
     mul-net-2
     element-copy-out-net
-    add-net-2
+    add-net
     mul-net-3
     element-write-net
     cast-net
-    add-net-3
     mul-net-4
     element-write-net-2
     loop-less

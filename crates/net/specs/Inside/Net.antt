@@ -1,6 +1,6 @@
 -- The net: numbers kept beside the rows so that "before" can be followed without walking from the root. Its words are, one
 -- after another: for each of 4,096 rows the row over it and the star of its innermost guard (0 for none); for each of 2,048
--- chosen labels the number of the next one with its variable, and for each of 1,024 variables the number of its first
+-- chosen labels the index of the next one with its variable, and for each of 1,024 variables the index of its first
 -- chosen label (the number of chosen labels for none).
 use Prim.Native.Nat.{ℕ, _+_, _-_, _<_, _≤_}
 use mathlib.Core.Bool.{true, false, cond, _&&_}
@@ -57,7 +57,7 @@ pub record Guards (rows : List ℕ) (#N : ℕ) (net : List ℕ) : Type 0 where
   pub guards : (i : ℕ) → i < #N → getD net (guardsFrom + i) 0 ≡ guardOf rows i
 
 module _ (rows chosen : List ℕ) where
-  -- the number of the first chosen label of v from number k on, or how many there are
+  -- the index of the first chosen label of v from index k on, or how many there are
   unfoldable pub firstWith : ℕ → ℕ → ℕ
   firstWith v k = k + first (λ m. eqb (argOf rows (getD chosen (k + m) 0)) v) (length chosen - k)
 

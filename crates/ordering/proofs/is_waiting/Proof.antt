@@ -1,4 +1,4 @@
--- A number below the size is looked up; no other is one.
+-- An index below the size is looked up; no other is one.
 use borrow.Author.Tests.{lt-ltb, le-ltb}
 use Rattle.fingers.specs.Inside.Graph.{free}
 use borrow.Author.Needs.{needs}

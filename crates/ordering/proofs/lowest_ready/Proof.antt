@@ -1,4 +1,4 @@
--- The loop's invariant: the numbers below k are placed or wait.
+-- The loop's invariant: the indices below k are placed or wait.
 use Prim.Native.Nat.{_≤_, _-_}
 use native.Mathlib.Omega.{arith}
 use lib.ListN.{length}

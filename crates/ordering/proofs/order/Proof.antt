@@ -1,4 +1,4 @@
--- The loop's invariant: k is the lowest number that is ready, and the labels placed so far stand in `out`. The measure is how many
+-- The loop's invariant: k is the lowest index that is ready, and the labels placed so far stand in `out`. The measure is how many
 -- may still be placed.
 use Prim.Native.Nat.{_-_}
 use native.Mathlib.Omega.{arith}

@@ -1,4 +1,4 @@
--- Each way out of a visit has its law: the number is placed, still waits, is blocked, or is ready.
+-- Each way out of a visit has its law: the index is placed, still waits, is blocked, or is ready.
 use native.Mathlib.Omega.{arith}
 use mathlib.Core.Path.{refl, sym, _∙_}
 use borrow.Author.Tests.{eq-eqb, ne-eqb}

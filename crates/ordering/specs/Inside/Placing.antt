@@ -1,4 +1,4 @@
--- What the code keeps while it places numbers in the reported order.
+-- What the code keeps while it places indices in the reported order.
 use Prim.Native.Nat.{ℕ, _+_, _-_, _<_, _≤_}
 use mathlib.Core.Bool.{Bool, true, false}
 use mathlib.Core.Path.{_≡_}
@@ -18,7 +18,7 @@ pub record Blocked (g : Graph) (placed low : List ℕ) (j f : ℕ) : Type 0 wher
   pub because : g .before f j ≡ true
   pub seen : getD low f 0 ≤ j
 
--- What is before j is placed or lies from its finger on; a number that waits for one not placed is blocked by it; those
+-- What is before j is placed or lies from its finger on; an index that waits for one not placed is blocked by it; those
 -- below k that are not placed wait.
 pub record State (g : Graph) (k : ℕ) (placed finger wait low : List ℕ) : Type 0 where
   pub small : g .size < slots
@@ -47,17 +47,17 @@ pub record Visited (g : Graph) (k : ℕ) (placed finger wait low : List ℕ) (r 
   pub passed : r ≡ false → State g (k + 1) placed finger wait low
   pub ready : r ≡ true → IsReady g placed finger k
 
--- k is the lowest number that is ready, or the size
+-- k is the lowest index that is ready, or the size
 pub record Lowest (g : Graph) (placed finger wait low : List ℕ) (k : ℕ) : Type 0 where
   pub state : State g k placed finger wait low
   pub to : k ≤ g .size
   pub ready : k < g .size → IsReady g placed finger k
 
--- the order of the numbers that are left, m of them at most
+-- the order of the indices that are left, m of them at most
 abbrev pub rest : Graph → ℕ → List ℕ → List ℕ
 rest g m left = greedyBy (g .before) eqb m left
 
--- count numbers are placed, and their labels stand in out
+-- count indices are placed, and their labels stand in out
 pub record Placing (g : Graph) (chosen : List ℕ) (count : ℕ) (placed out₀ out : List ℕ) : Type 0 where
   pub size : length out ≡ slots
   pub counted : count + length (leftOf (g .size) placed) ≤ g .size

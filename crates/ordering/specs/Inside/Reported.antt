@@ -1,4 +1,4 @@
--- The reported order, over the numbers of the chosen labels (document 01, "Reported order"). `prior` is "before" in terms of rows.
+-- The reported order, over the indices of the chosen labels (document 01, "Reported order"). `prior` is "before" in terms of rows.
 use Prim.Native.Nat.{ℕ}
 use mathlib.Core.List.{List, map}
 use mathlib.Core.Path.{_≡_}
@@ -9,11 +9,11 @@ use Rattle.entries.specs.Front.{inFront}
 use Rattle.paper.specs.Lists.{upTo}
 use Rattle.net.specs.Inside.Prior.{prior}
 
--- the numbers in the reported order: all of them exactly if there is an order
+-- the indices in the reported order: all of them exactly if there is an order
 unfoldable pub ordered : List ℕ → List ℕ → List ℕ → List ℕ
 ordered rows reads chosen = greedyBy (prior rows reads chosen) eqb (length chosen) (upTo (length chosen))
 
--- the labels of numbers
+-- the labels of indices
 abbrev pub labelled : List ℕ → List ℕ → List ℕ
 labelled chosen ks = map (λ k. getD chosen k 0) ks
 

@@ -6,19 +6,19 @@ use Rattle.paper.specs.Lists.{anyOf, allOf}
 use Rattle.paper.specs.Formula.{Label, has, Formula, Formulas, FALSE, test, candidate, conjunction, disjunction, exists, IF, only, _⨾_}
 
 -- a way to part a list in two
-pub record Parts : Type 0 where
+pub record Parting : Type 0 where
   pub left : List Label
   pub right : List Label
 
-abbrev pub toLeft : Label → Parts → Parts
+abbrev pub toLeft : Label → Parting → Parting
 toLeft x p = record { left = x ∷ p .left; right = p .right }
 
-abbrev pub toRight : Label → Parts → Parts
+abbrev pub toRight : Label → Parting → Parting
 toRight x p = record { left = p .left; right = x ∷ p .right }
 
-abbrev pub parts : List Label → List Parts
-parts [] = record { left = []; right = [] } ∷ []
-parts (x ∷ S) = map (toLeft x) (parts S) ++ map (toRight x) (parts S)
+abbrev pub partings : List Label → List Parting
+partings [] = record { left = []; right = [] } ∷ []
+partings (x ∷ S) = map (toLeft x) (partings S) ++ map (toRight x) (partings S)
 
 -- the branch b holds the labels of S
 abbrev pub holdsAll : List Label → List Label → Bool
@@ -36,7 +36,7 @@ abbrev mutual
 
   pub eachHolds : Formulas → List Label → Bool
   eachHolds (only f) S = someBranchHolds f S
-  eachHolds (f ⨾ fs) S = anyOf (λ p. someBranchHolds f (p .left) && eachHolds fs (p .right)) (parts S)
+  eachHolds (f ⨾ fs) S = anyOf (λ p. someBranchHolds f (p .left) && eachHolds fs (p .right)) (partings S)
 
   pub anyHolds : Formulas → List Label → Bool
   anyHolds (only f) S = someBranchHolds f S

@@ -18,11 +18,11 @@ abbrev μ-loop : tie.MeasureT-loop
 loop-holds : tie.Need-loop-holds Inv-loop μ-loop
 loop-holds c = (omega arith, omega arith, refl)
 
-mul-is-kept : tie.Need-mul-is-kept Inv-loop μ-loop
-mul-is-kept c = omega arith
+mul-t5 : tie.Need-mul-t5 Inv-loop μ-loop
+mul-t5 c = omega arith
 
-shared-slice-read-is-kept : tie.Need-shared-slice-read-is-kept Inv-loop μ-loop
-shared-slice-read-is-kept c = omega arith
+shared-slice-read-t8 : tie.Need-shared-slice-read-t8 Inv-loop μ-loop
+shared-slice-read-t8 c = omega arith
 
 is-kept-requires : tie.Need-is-kept-requires Inv-loop μ-loop
 is-kept-requires c κs = c .before .before .before .before .before .pre (c .before .before .loop .i) (c .before .loop-test .taken)
@@ -54,4 +54,4 @@ returns c =
 pub count-kept-spec : {M : Type 1} → statement M
 count-kept-spec =
     tie.close
-    (tie.spec Inv-loop μ-loop loop-holds mul-is-kept shared-slice-read-is-kept is-kept-requires one-more-requires add-i loop-less loop-again returns)
+    (tie.spec Inv-loop μ-loop loop-holds mul-t5 shared-slice-read-t8 is-kept-requires one-more-requires add-i loop-less loop-again returns)

@@ -14,11 +14,11 @@ abbrev μ-loop : tie.MeasureT-loop
 loop-holds : tie.Need-loop-holds Inv-loop μ-loop
 loop-holds c = filling-begins (c .before .before .before .pre)
 
-mul-label : tie.Need-mul-label Inv-loop μ-loop
-mul-label c = omega (arith, c .before .before .before .before .before .pre .there)
+mul-t9 : tie.Need-mul-t9 Inv-loop μ-loop
+mul-t9 c = omega (arith, c .before .before .before .before .before .pre .there)
 
-shared-slice-read-label : tie.Need-shared-slice-read-label Inv-loop μ-loop
-shared-slice-read-label c = omega (arith, c .before .before .before .before .before .before .pre .there)
+shared-slice-read-t11 : tie.Need-shared-slice-read-t11 Inv-loop μ-loop
+shared-slice-read-t11 c = omega (arith, c .before .before .before .before .before .before .pre .there)
 
 is-kept-requires : tie.Need-is-kept-requires Inv-loop μ-loop
 is-kept-requires c κs =
@@ -53,4 +53,4 @@ returns c = filling-ends (c .before .before .before .before .before .pre) (c .be
 pub fill-assigned-spec : {M : Type 1} → statement M
 fill-assigned-spec =
     tie.close
-    (tie.spec Inv-loop μ-loop loop-holds mul-label shared-slice-read-label is-kept-requires put-requires add-i loop-less loop-again same-length returns)
+    (tie.spec Inv-loop μ-loop loop-holds mul-t9 shared-slice-read-t11 is-kept-requires put-requires add-i loop-less loop-again same-length returns)

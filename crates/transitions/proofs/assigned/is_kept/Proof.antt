@@ -5,6 +5,9 @@ use Rattle.marks.specs.Marks.{isMarked}
 use Rattle.transitions.proofs.assigned.is_kept.Statement.{statement}
 use Rattle.transitions.proofs.assigned.is_kept.Tie as tie
 
+cast-i : tie.Need-cast-i
+cast-i c = search needs
+
 shared-slice-read-result : tie.Need-shared-slice-read-result
 shared-slice-read-result c = search needs
 
@@ -13,4 +16,4 @@ unfolding isMarked
 returns c = refl
 
 pub is-kept-spec : {M : Type 1} → statement M
-is-kept-spec = tie.close (tie.spec shared-slice-read-result returns)
+is-kept-spec = tie.close (tie.spec cast-i shared-slice-read-result returns)

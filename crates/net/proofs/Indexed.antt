@@ -1,5 +1,5 @@
--- The reported order and the cycles of a relation between labels are those of the same relation between the labels' numbers,
--- counted from 0 in ascending order: what is done with the numbers is done with the labels.
+-- The reported order and the cycles of a relation between labels are those of the same relation between the labels' indices,
+-- counted from 0 in ascending order: what is done with the indices is done with the labels.
 use Prim.Native.Nat.{ℕ, zero, suc, _<_, _≤_}
 use native.Mathlib.Omega.{arith}
 use mathlib.Core.Path.{_≡_, refl, sym, ap, _∙_}
@@ -61,9 +61,9 @@ module _ {X Y : Type 0} (h : X → Y) (R likeY : Y → Y → Bool) (Q likeX : X 
       let rest : All ks = λ x t. all x (List·Memᴰ·tail t) in
       cc (leads-same ks rest i j a b, leads-same ks rest i k a c, leads-same ks rest k j c b)
 
--- the entries of a list, by their numbers
-pub entries-numbered : (xs : List ℕ) → map (λ k. ℓ (getD xs k 0)) (upTo (length xs)) ≡ map ℓ xs
-entries-numbered xs = first (length xs) (omega arith) ∙ ap (map ℓ) (take-length xs)
+-- the entries of a list, by their indices
+pub entries-indexed : (xs : List ℕ) → map (λ k. ℓ (getD xs k 0)) (upTo (length xs)) ≡ map ℓ xs
+entries-indexed xs = first (length xs) (omega arith) ∙ ap (map ℓ) (take-length xs)
   where
     first : (n : ℕ) → n ≤ length xs → map (λ k. ℓ (getD xs k 0)) (upTo n) ≡ map ℓ (take n xs)
     first zero h = refl
@@ -71,24 +71,24 @@ entries-numbered xs = first (length xs) (omega arith) ∙ ap (map ℓ) (take-len
         map-append (λ k. ℓ (getD xs k 0)) (upTo n) (n ∷ [])
         ∙ rw (first n (omega arith), take-suc xs n 0 (omega arith)) (sym (map-append ℓ (take n xs) (getD xs n 0 ∷ [])))
 
--- the numbers below n stand for labels, in ascending order
+-- the indices below n stand for labels, in ascending order
 module _ (R : Label → Label → Bool) (Q : ℕ → ℕ → Bool) (g : ℕ → ℕ) (n : ℕ)
     (related : (i j : ℕ) → i < n → j < n → R (ℓ (g i)) (ℓ (g j)) ≡ Q i j) (ascend : (j k : ℕ) → j < k → k < n → g j < g k) where
-  abbrev numbered : List Label
-  numbered = map (λ k. ℓ (g k)) (upTo n)
+  abbrev indexed : List Label
+  indexed = map (λ k. ℓ (g k)) (upTo n)
 
-  same-number : (i j : ℕ) → i < n → j < n → same (ℓ (g i)) (ℓ (g j)) ≡ eqb i j
-  same-number i j a b = go (eqb i j) refl
+  same-index : (i j : ℕ) → i < n → j < n → same (ℓ (g i)) (ℓ (g j)) ≡ eqb i j
+  same-index i j a b = go (eqb i j) refl
     where
       go : (t : Bool) → eqb i j ≡ t → eqb (g i) (g j) ≡ t
       go true e = eq-eqb _ _ (ap g (eqb-true i j e))
       go false e = ne-eqb (g i) (g j) λ q.
           pick (lt-or-le i j) (λ h. omega (arith, ascend i j h b)) (λ h. omega (arith, ascend j i (omega (arith, eqb-false i j e)) a))
 
-  pub order-is-numbered : order R numbered ≡ map (λ k. ℓ (g k)) (greedyBy Q eqb n (upTo n))
-  order-is-numbered =
-      ap (λ m. greedyBy R same m numbered) (length-map (upTo n) (λ k. ℓ (g k)) ∙ length-upTo n)
-      ∙ greedy-same (λ k. ℓ (g k)) R same Q eqb (λ k. k < n) related same-number n (upTo n) (below-of n)
+  pub order-is-indexed : order R indexed ≡ map (λ k. ℓ (g k)) (greedyBy Q eqb n (upTo n))
+  order-is-indexed =
+      ap (λ m. greedyBy R same m indexed) (length-map (upTo n) (λ k. ℓ (g k)) ∙ length-upTo n)
+      ∙ greedy-same (λ k. ℓ (g k)) R same Q eqb (λ k. k < n) related same-index n (upTo n) (below-of n)
 
-  pub cycle-is-numbered : (i : ℕ) → i < n → onCycle R numbered (ℓ (g i)) ≡ onCycle Q (upTo n) i
-  cycle-is-numbered i h = leads-same (λ k. ℓ (g k)) R same Q eqb (λ k. k < n) related same-number (upTo n) (below-of n) i i h h
+  pub cycle-is-indexed : (i : ℕ) → i < n → onCycle R indexed (ℓ (g i)) ≡ onCycle Q (upTo n) i
+  cycle-is-indexed i h = leads-same (λ k. ℓ (g k)) R same Q eqb (λ k. k < n) related same-index (upTo n) (below-of n) i i h h
