@@ -20,12 +20,11 @@ use Rattle.sections.specs.declared.Step.{Step}
 use Rattle.sections.specs.declared.Step.the-variants.{Next, Halt}
 use Rattle.sections.specs.Sections.{halt, andThen, start, openAt, variablesAt, readsAt, rowsAt, strategyAt, endAt}
 use Rattle.table.specs.declared.Layout.{Layout}
-use Rattle.table.specs.Table.{partAt, readsOf, sections, checked}
-use Rattle.table.specs.Table as Table
+use Rattle.table.specs.Table.{partAt, readsOf, sections, layout, asChecked, checked}
 use Rattle.written.specs.Tables.{formulaIn}
 use Rattle.verdict.specs.declared.Judged.{Judged}
 use Rattle.verdict.specs.declared.Judged.the-variants as judged
-use Rattle.verdict.specs.Verdict.{answerOf}
+use Rattle.verdict.specs.Verdict.{asJudged}
 use Rattle.strategy.specs.Judge.{proposalIn, judgedOf, judgedAs}
 use Rattle.demands.specs.Demands.{JudgeGives}
 
@@ -113,7 +112,7 @@ abbrev pub AnswerGives : Judged → Type 0
 AnswerGives (judged.Accepted a) = Unit {0}
 AnswerGives (judged.Refused x) = JudgeGives (x .number)
 
-answers-give : (l : Layout) (j : Judgement) → JudgementGives j → AnswerGives (answerOf l j)
+answers-give : (l : Layout) (j : Judgement) → JudgementGives j → AnswerGives (asJudged l j)
 answers-give l (accepted v n s t) g = tt
 answers-give l (refused number place) g = g
 
@@ -121,10 +120,10 @@ pub judged-gives : (words : List ℕ) → AnswerGives (judgedOf words)
 unfolding judgedOf checked
 judged-gives words = go (sections words) (sections-give words)
   where
-    go : (s : Step) → StepGives s → AnswerGives (judgedAs words (Table.answerOf s))
+    go : (s : Step) → StepGives s → AnswerGives (judgedAs words (asChecked s))
     go (Halt x) g = g
     go (Next c) g =
-        let l = Table.layout (c .variables) (c .reads) (c .rows) (c .count) in
+        let l = layout (c .variables) (c .reads) (c .rows) (c .count) in
         answers-give l (judge (l .variables) (formulaIn words l) (proposalIn words l)) (judge-gives (l .variables) (formulaIn words l) (proposalIn words l))
 
 pub refused-number : (words : List ℕ) (x : Refusal) → judgedOf words ≡ judged.Refused x → JudgeGives (x .number)
