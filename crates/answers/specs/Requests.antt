@@ -2,16 +2,15 @@
 -- afterwards. The last three fill a lent slice (crates/filling/specs/Filling.antt).
 use Prim.Native.Nat.{ℕ}
 use mathlib.Core.Bool.{cond}
-use mathlib.Core.List.{List, [], map}
+use mathlib.Core.List.{List, map}
 use lib.Dec.{eqb, leb}
-use lib.ListN.{length, getD}
+use lib.ListN.{length}
 use Rattle.paper.specs.Refusals.{refusal, noSuchTransition, uneven}
 use Rattle.paper.specs.declared.Label.{Label}
 use Rattle.paper.specs.Lists.{those}
 use Rattle.paper.specs.Formula.{has, labels}
-use Rattle.paper.specs.Before.{before}
-use Rattle.paper.specs.Order.{order}
-use Rattle.paper.specs.Transition.{keys, isKept}
+use Rattle.paper.specs.Strategy.{reportedOrder}
+use Rattle.paper.specs.Transition.{keyAt, isKept}
 use Rattle.table.specs.declared.Layout.{Layout}
 use Rattle.written.specs.Tables.{formulaIn}
 use Rattle.filling.specs.Filling.{Outcome, refuses, unlessShort}
@@ -33,10 +32,10 @@ judgeOf words = judgeAnswer (judgedOf words)
 -- The formula and the proposal of words laid out so, the reported order, and transition k: its key, its kept labels.
 module _ (words : List ℕ) (l : Layout) where
   abbrev pub reported : List Label
-  reported = order (before (formulaIn words l) (proposalIn words l)) (proposalIn words l)
+  reported = reportedOrder (formulaIn words l) (proposalIn words l)
 
   abbrev pub keyOf : ℕ → List Label
-  keyOf k = getD (keys (formulaIn words l) (proposalIn words l)) k []
+  keyOf = keyAt (formulaIn words l) (proposalIn words l)
 
   -- 1 for a kept label, else 0
   abbrev pub keptMark : ℕ → Label → ℕ

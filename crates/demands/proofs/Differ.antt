@@ -10,7 +10,7 @@ use lib.ListN.{length, getD}
 use Rattle.paper.specs.declared.Label.{Label}
 use Rattle.paper.specs.Formula.{has, labels, Rising, Formula}
 use Rattle.paper.specs.Branch.{branches}
-use Rattle.paper.specs.Transition.{key, isKept, keys}
+use Rattle.paper.specs.Transition.{key, isKept, keys, keyAt}
 use Rattle.paper.specs.Statements.{Ascending}
 use Rattle.paper.proofs.Bools.{same-answer}
 use Rattle.paper.proofs.Labels.{has-mem, sub-has, rising-ext, branch-sub}
@@ -58,22 +58,22 @@ module _ (f : Formula) (A : List Label) (rises : Rising 0 (labels f)) where
       ∙ sym q
 
   pub kept-differ : (j k : ℕ) → j < length (keys f A) → k < length (keys f A)
-      → ((l : Label) → isKept f A (getD (keys f A) j []) l ≡ isKept f A (getD (keys f A) k []) l) → j ≡ k
+      → ((l : Label) → isKept f A (keyAt f A j) l ≡ isKept f A (keyAt f A k) l) → j ≡ k
   kept-differ j k h g same =
       one-number (keys f A) (keys-are-listed f A .ascending) j k h g
-      (same-kept (getD (keys f A) j []) (getD (keys f A) k []) (getD-mem (keys f A) j h) (getD-mem (keys f A) k g) same)
+      (same-kept (keyAt f A j) (keyAt f A k) (getD-mem (keys f A) j h) (getD-mem (keys f A) k g) same)
 
   -- a mark for each label of the formula: 1 if the class of the k-th key keeps it, else 0
   abbrev marked : ℕ → Label → ℕ
-  marked k l = cond (isKept f A (getD (keys f A) k []) l) 1 0
+  marked k l = cond (isKept f A (keyAt f A k) l) 1 0
 
   -- where the marks are alike, a label that one class keeps the other keeps
   kept-alike : (j k : ℕ) → map (marked j) (labels f) ≡ map (marked k) (labels f) → (l : Label)
-      → isKept f A (getD (keys f A) j []) l ≡ true → isKept f A (getD (keys f A) k []) l ≡ true
+      → isKept f A (keyAt f A j) l ≡ true → isKept f A (keyAt f A k) l ≡ true
   kept-alike j k alike l h =
-      let (b, t, e, on-b) = of-kept A (branches f) (getD (keys f A) j []) l h in
+      let (b, t, e, on-b) = of-kept A (branches f) (keyAt f A j) l h in
       let in-formula = has-mem (labels f) l (sub-has l (branch-sub f b t) on-b) in
-      go (isKept f A (getD (keys f A) k []) l) (rw h at (at-each (marked j) (marked k) (labels f) alike in-formula))
+      go (isKept f A (keyAt f A k) l) (rw h at (at-each (marked j) (marked k) (labels f) alike in-formula))
     where
       go : (t : Bool) → _≡_ {A = ℕ} 1 (cond t 1 0) → t ≡ true
       go true e = refl

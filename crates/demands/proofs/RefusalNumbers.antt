@@ -21,8 +21,7 @@ use Rattle.sections.specs.declared.Step.{Step}
 use Rattle.sections.specs.declared.Step.the-variants.{Next, Halt}
 use Rattle.sections.specs.Sections.{halt, andThen, start, openAt, variablesAt, readsAt, rowsAt, strategyAt, endAt}
 use Rattle.table.specs.declared.Layout.{Layout}
-use Rattle.table.specs.Table.{partAt, readsOf, sections, checked}
-use Rattle.table.specs.Table as Table
+use Rattle.table.specs.Table.{partAt, readsOf, sections, layout, asChecked, checked}
 use Rattle.written.specs.Tables.{formulaIn}
 use Rattle.verdict.specs.declared.Judged.{Judged}
 use Rattle.verdict.specs.declared.Judged.the-variants as judged
@@ -122,10 +121,10 @@ pub judged-gives : (words : List ℕ) → AnswerGives (judgedOf words)
 unfolding judgedOf checked
 judged-gives words = go (sections words) (sections-give words)
   where
-    go : (s : Step) → StepGives s → AnswerGives (judgedAs words (Table.asChecked s))
+    go : (s : Step) → StepGives s → AnswerGives (judgedAs words (asChecked s))
     go (Halt x) g = g
     go (Next c) g =
-        let l = Table.layout (c .variables) (c .reads) (c .rows) (c .count) in
+        let l = layout (c .variables) (c .reads) (c .rows) (c .count) in
         answers-give l (judge (l .variables) (formulaIn words l) (proposalIn words l)) (judge-gives (l .variables) (formulaIn words l) (proposalIn words l))
 
 pub refused-number : (words : List ℕ) (x : Refusal) → judgedOf words ≡ judged.Refused x → JudgeGives (x .number)

@@ -5,17 +5,15 @@ use Prim.Native.Nat.{ℕ, _+_, _*_, _^_, _<_, _≤_}
 use mathlib.Core.Path.{_≡_}
 use mathlib.Core.Bool.{cond}
 use mathlib.Core.Logic.{_↔_, _⊎_}
-use mathlib.Core.List.{List, [], map, List·Memᴰ}
-use lib.ListN.{length, getD, take, drop}
+use mathlib.Core.List.{List, map, List·Memᴰ}
+use lib.ListN.{length, take, drop}
 use Rattle.paper.specs.Limits.{mostTransitions}
 use Rattle.paper.specs.declared.Label.{Label}
 use Rattle.paper.specs.Lists.{those}
 use Rattle.paper.specs.Formula.{ℓ, has, Formula, labels}
 use Rattle.paper.specs.Branch.{branches}
-use Rattle.paper.specs.Before.{before}
-use Rattle.paper.specs.Order.{order}
-use Rattle.paper.specs.Strategy.{Strategy}
-use Rattle.paper.specs.Transition.{sliceBy, class, isKept, keys, transition}
+use Rattle.paper.specs.Strategy.{Strategy, reportedOrder}
+use Rattle.paper.specs.Transition.{sliceBy, class, isKept, keys, keyAt, transition}
 use Rattle.paper.specs.Meaning.{Meaning, True}
 use Rattle.paper.specs.Carry.{Carried, unset}
 use Rattle.paper.specs.Statements.{KeysAreListed}
@@ -97,10 +95,10 @@ pub record Accepted (words : List ℕ) (r : ℕ) (t : Table) : Type 0 where
 
 -- the k-th key; the reported order
 abbrev pub keyOf : Table → ℕ → List Label
-keyOf t k = getD (keys (t .formula) (t .strategy)) k []
+keyOf t = keyAt (t .formula) (t .strategy)
 
 abbrev pub reported : Table → List Label
-reported t = order (before (t .formula) (t .strategy)) (t .strategy)
+reported t = reportedOrder (t .formula) (t .strategy)
 
 -- the formula sliced by the labels whose byte is 1
 abbrev pub sliceByBytes : Table → List ℕ → Formula

@@ -8,8 +8,7 @@ use mathlib.Core.List.{List, [], _∷_, map}
 use lib.ListN.{length}
 use Rattle.paper.specs.Lists.{those}
 use Rattle.paper.specs.Formula.{Label, ℓ, 𝓋, has, Star, Formula, FALSE, test, candidate, conjunction, disjunction, exists, IF, only, _⨾_}
-use Rattle.paper.specs.Before.{before}
-use Rattle.paper.specs.Order.{order}
+use Rattle.paper.specs.Strategy.{reportedOrder}
 use Rattle.paper.specs.Transition.{keys, keptLabels}
 use Rattle.paper.specs.Refusals.{Refusal, refusal}
 use Rattle.paper.specs.Judgement.{Judgement, accepted, refused, judge}
@@ -52,10 +51,10 @@ numbered = map ℓ
 
 -- the line of the transition with the key k
 abbrev pub lineOf : Formula → List Label → List Label → Line
-lineOf f A k = line (numbers (those (has k) (order (before f A) A))) (numbers (keptLabels f A k))
+lineOf f A k = line (numbers (those (has k) (reportedOrder f A))) (numbers (keptLabels f A k))
 
 abbrev pub answerAfter : Judgement → Formula → List Label → Answer
-answerAfter (accepted v n s t) f A = acceptedWith v n s t (numbers (order (before f A) A)) (map (lineOf f A) (keys f A))
+answerAfter (accepted v n s t) f A = acceptedWith v n s t (numbers (reportedOrder f A)) (map (lineOf f A) (keys f A))
 answerAfter (refused r) f A = refusing r
 
 -- the number of variables and the proposal of a case, and what the definitions answer

@@ -11,7 +11,7 @@ use Rattle.paper.specs.Formula.{Label, ℓ, 𝓋, same, has, Formula, Fo
 use Rattle.paper.specs.Branch.{branches}
 use Rattle.paper.specs.Frozen.{frozen}
 use Rattle.paper.specs.Before.{before}
-use Rattle.paper.specs.Order.{order}
+use Rattle.paper.specs.Strategy.{reportedOrder}
 use Rattle.paper.specs.Transition.{sliceBy, isLower, keys, transitions}
 use Rattle.paper.specs.Meaning.{Meaning, True}
 use Rattle.paper.specs.Carry.{Carried, unset}
@@ -159,7 +159,7 @@ pub record BeforeAndOrder : Type 0 where
   pub not-the-reader : before alternatives chosen (ℓ 2) (ℓ 4) ≡ false
   pub not-unchosen : before alternatives (numbered (2 ∷ [])) (ℓ 4) (ℓ 2) ≡ false
   -- not: the highest label that is ready
-  pub lowest-ready-first : order (before alternatives chosen) chosen ≡ numbered (4 ∷ 2 ∷ 9 ∷ 7 ∷ [])
+  pub lowest-ready-first : reportedOrder alternatives chosen ≡ numbered (4 ∷ 2 ∷ 9 ∷ 7 ∷ [])
 
 -- Keys. Two conjoined disjunctions: (x' in s or x' in s) and (y' in s or y' in s)
 abbrev pub square : Formula

@@ -6,7 +6,7 @@ use mathlib.Core.Bool.{Bool, true, false, _||_}
 use mathlib.Core.Path.{_≡_}
 use mathlib.Core.Logic.{_↔_}
 use mathlib.Core.List.{List, [], _∷_, List·Memᴰ}
-use lib.ListN.{length, getD}
+use lib.ListN.{length}
 use Rattle.paper.specs.Limits.{mostTransitions}
 use Rattle.paper.specs.Lists.{anyOf, those}
 use Rattle.paper.specs.Formula.{Label, Variable, ℓ, has, Formula, labels, Rising, WellFormed}
@@ -15,8 +15,8 @@ use Rattle.paper.specs.BoolForm.{MinimalModel}
 use Rattle.paper.specs.Frozen.{frozen, Constrained}
 use Rattle.paper.specs.Before.{before, shareBranch}
 use Rattle.paper.specs.Order.{Acyclic, order, Chain, onCycle, OrderOf}
-use Rattle.paper.specs.Strategy.{Homogeneous, MinimalCovering, Strategy}
-use Rattle.paper.specs.Transition.{sliceBy, key, isLower, class, isKept, keys, transitions}
+use Rattle.paper.specs.Strategy.{Homogeneous, MinimalCovering, Strategy, reportedOrder}
+use Rattle.paper.specs.Transition.{sliceBy, key, isLower, class, isKept, keys, keyAt, transitions}
 use Rattle.paper.specs.Meaning.{Meaning, True}
 use Rattle.paper.specs.Carry.{Carried, unset}
 use Rattle.paper.specs.Refusals.{refusal}
@@ -124,7 +124,7 @@ module _ (#V : ℕ) (f : Formula) (A : List Label) where
       → (b : List Label) → List·Memᴰ b (branches f) → Carried #V f unset (those (has b) o)
 
   abbrev pub ReportedIsOrder : Type 0
-  ReportedIsOrder = Acyclic (before f A) A → OrderOf (before f A) A (order (before f A) A)
+  ReportedIsOrder = Acyclic (before f A) A → OrderOf (before f A) A (reportedOrder f A)
 
 -- 7. The forms over the structure are what the branches say.
 module _ (#V : ℕ) (f : Formula) (A : List Label) where
@@ -140,8 +140,8 @@ module _ (#V : ℕ) (f : Formula) (A : List Label) where
 
   pub record NumbersSay : Type 0 where
     pub count : length (keys f A) ≡ numberOf A f
-    pub kth-key : (k : ℕ) → k < length (keys f A) → getD (keys f A) k [] ≡ key A (keptAt A f k)
-    pub kth-kept : (k : ℕ) → k < length (keys f A) → (l : Label) → isKept f A (getD (keys f A) k []) l ≡ has (keptAt A f k) l
+    pub kth-key : (k : ℕ) → k < length (keys f A) → keyAt f A k ≡ key A (keptAt A f k)
+    pub kth-kept : (k : ℕ) → k < length (keys f A) → (l : Label) → isKept f A (keyAt f A k) l ≡ has (keptAt A f k) l
 
   -- of a minimal covering by candidates
   abbrev pub KeysSay : Type 0

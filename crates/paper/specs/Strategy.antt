@@ -1,4 +1,4 @@
--- Assignment strategies (document 001, Definitions 1 to 4; document 01, "Strategy").
+-- Assignment strategies (document 001, Definitions 1 to 4; document 01, "Strategy"), and the order that is reported of one.
 -- A proposal is the list of its labels, ascending; #V is the number of variables, document 01's V.
 use Prim.Native.Nat.{ℕ, _<_}
 use mathlib.Core.Bool.{true, _&&_}
@@ -8,7 +8,7 @@ use Rattle.paper.specs.Lists.{howMany}
 use Rattle.paper.specs.Formula.{Label, Variable, has, Formula, isCandidate, assigns}
 use Rattle.paper.specs.Branch.{branches}
 use Rattle.paper.specs.Before.{before}
-use Rattle.paper.specs.Order.{Acyclic}
+use Rattle.paper.specs.Order.{Acyclic, order}
 
 -- Definition 1: all labels are candidates
 abbrev pub Homogeneous : Formula → List Label → Type 0
@@ -34,3 +34,7 @@ pub record Strategy (#V : ℕ) (f : Formula) (A : List Label) : Type 0 where
   pub homogeneous : Homogeneous f A
   pub minimal : MinimalCovering #V f A
   pub acyclic : Acyclic (before f A) A
+
+-- the order that is reported of a proposal (document 01, "Reported order"); where there is no order, as far as it goes
+abbrev pub reportedOrder : Formula → List Label → List Label
+reportedOrder f A = order (before f A) A

@@ -1,7 +1,9 @@
 -- Slices, keys, classes and transitions (document 001, Table 4 and Definition 5; document 01, "Key" and "Numbering").
+use Prim.Native.Nat.{ℕ}
 use mathlib.Core.Bool.{Bool, true, false, cond, _&&_, _||_}
 use mathlib.Core.List.{List, [], _∷_, map}
 use lib.Dec.{ltb}
+use lib.ListN.{getD}
 use Rattle.paper.specs.Lists.{anyOf, those}
 use Rattle.paper.specs.Formula.{Label, same, has, labels, Formula, Formulas, FALSE, test, candidate, conjunction, disjunction, exists, IF, only, _⨾_}
 use Rattle.paper.specs.Branch.{branches}
@@ -62,6 +64,10 @@ distinct (k ∷ ks) = withKey k (distinct ks)
 -- the distinct keys, ascending: the number of a transition is the place of its key here
 abbrev pub keys : Formula → List Label → List (List Label)
 keys f A = distinct (map (key A) (branches f))
+
+-- the key whose number is k
+abbrev pub keyAt : Formula → List Label → ℕ → List Label
+keyAt f A k = getD (keys f A) k []
 
 -- Definition 5: the transition of the class with the key k
 abbrev pub transition : Formula → List Label → List Label → Formula

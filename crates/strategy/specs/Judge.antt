@@ -9,9 +9,7 @@ use lib.ListN.{length}
 use Rattle.paper.specs.Limits.{mostTransitions}
 use Rattle.paper.specs.declared.Label.{Label}
 use Rattle.paper.specs.Formula.{ℓ, Formula}
-use Rattle.paper.specs.Before.{before}
-use Rattle.paper.specs.Order.{order}
-use Rattle.paper.specs.Strategy.{Strategy}
+use Rattle.paper.specs.Strategy.{Strategy, reportedOrder}
 use Rattle.paper.specs.Transition.{keys}
 use Rattle.paper.specs.Judgement.{judge}
 use Rattle.table.specs.declared.Layout.{Layout}
@@ -41,7 +39,7 @@ judgedOf words = judgedAs words (checked words)
 
 -- the reported order of a formula with a proposal, as words; where there is no order, as far as it goes
 abbrev pub wordsOfOrder : Formula → List Label → List ℕ
-wordsOfOrder f A = map (λ l. l .0) (order (before f A) A)
+wordsOfOrder f A = map (λ l. l .0) (reportedOrder f A)
 
 -- what an answer leaves in words lent for an order, which is that of the accepted layout: an acceptance the order in front of what was
 -- there, a refusal what was there

@@ -11,7 +11,7 @@ use Rattle.paper.specs.Lists.{those}
 use Rattle.paper.specs.Formula.{ℓ, has, Formula, Rising, WellFormed}
 use Rattle.paper.specs.Branch.{branches}
 use Rattle.paper.specs.Strategy.{Homogeneous, MinimalCovering}
-use Rattle.paper.specs.Transition.{key, sameKey, class, keys}
+use Rattle.paper.specs.Transition.{key, sameKey, class, keys, keyAt}
 use Rattle.paper.specs.Structure.KeyCount.{numberOf}
 use Rattle.paper.specs.Structure.Kept.{keptAt}
 use Rattle.paper.specs.Statements.{NumbersSay}
@@ -31,7 +31,7 @@ use Rattle.keys.specs.Inside.Keys.{total, keysAt}
 use Rattle.keys.proofs.KeyNumbers.{keys-number-within}
 use Rattle.transitions.specs.Inside.Kept.{Keepable}
 use Rattle.transitions.specs.Inside.Assigned.{keptOf}
-use Rattle.transitions.specs.Statements.{kthKey, kthBytes, TransitionSays, EachTransitionSays}
+use Rattle.transitions.specs.Statements.{kthBytes, TransitionSays, EachTransitionSays}
 use Rattle.transitions.proofs.MarkedBytes.{bytes-same}
 use Rattle.transitions.proofs.Words.{those-same, kept-labels, as-many-ordered}
 
@@ -44,21 +44,21 @@ module _ (#V : ℕ) (f : Formula) (A : List Label) (formed : WellFormed #V f) (h
   says = numbers-say #V f A formed homogeneous minimal
 
   -- the chosen labels that are kept are the key's
-  chosen-kept : those (has kept) A ≡ kthKey f A k
+  chosen-kept : those (has kept) A ≡ keyAt f A k
   chosen-kept =
       rising-ext 0 0 (those (has kept) A) (key A kept) (rising-sub 0 (sub-those (has kept) A) rises) (key-rises A (kept-sub A f k) (formed .rising))
       (λ l t. let (a, e) = those-has (has kept) A l t in to-key A kept l e a)
       (λ l t. let (e, a) = of-key A kept l t in has-those (has kept) A l a e)
       ∙ sym (says .kth-key k h)
 
-  key-length : length (kthKey f A k) ≡ #V
-  key-length = keys-have-length #V f A formed homogeneous minimal (kthKey f A k) (getD-mem (keys f A) k h)
+  key-length : length (keyAt f A k) ≡ #V
+  key-length = keys-have-length #V f A formed homogeneous minimal (keyAt f A k) (getD-mem (keys f A) k h)
 
   -- a chosen label is kept if it is on a branch of the class
-  kept-on : (b : List Label) → List·Memᴰ b (class f A (kthKey f A k)) → (l : Label) → has A l ≡ true → has kept l ≡ has b l
+  kept-on : (b : List Label) → List·Memᴰ b (class f A (keyAt f A k)) → (l : Label) → has A l ≡ true → has kept l ≡ has b l
   kept-on b t l a =
-      let (u, e) = of-those (λ c. sameKey (key A c) (kthKey f A k)) (branches f) t in
-      let one-key = sameKey-eq (key A b) (kthKey f A k) e ∙ says .kth-key k h in
+      let (u, e) = of-those (λ c. sameKey (key A c) (keyAt f A k)) (branches f) t in
+      let one-key = sameKey-eq (key A b) (keyAt f A k) e ∙ says .kth-key k h in
       same-answer (has kept l) (has b l) (λ i. of-key A b l (subst (λ j. has j l ≡ true) (sym one-key) (to-key A kept l i a)) .0)
       (λ i. of-key A kept l (subst (λ j. has j l ≡ true) one-key (to-key A b l i a)) .0)
 

@@ -3,36 +3,32 @@
 use Prim.Native.Nat.{ℕ, _<_}
 use mathlib.Core.Bool.{Bool}
 use mathlib.Core.Path.{_≡_}
-use mathlib.Core.List.{List, [], map, List·Memᴰ}
-use lib.ListN.{length, getD}
+use mathlib.Core.List.{List, map, List·Memᴰ}
+use lib.ListN.{length}
 use Rattle.paper.specs.declared.Label.{Label}
 use Rattle.paper.specs.Lists.{those}
 use Rattle.paper.specs.Formula.{ℓ, has, Formula, Rising, WellFormed}
 use Rattle.paper.specs.Order.{OrderOf}
 use Rattle.paper.specs.Strategy.{Homogeneous, MinimalCovering}
-use Rattle.paper.specs.Transition.{isKept, class, keys}
+use Rattle.paper.specs.Transition.{isKept, class, keys, keyAt}
 use Rattle.paper.specs.Structure.Kept.{keptAt}
 use Rattle.marks.specs.Inside.Chosen.{AllBelow}
 use Rattle.transitions.specs.Inside.Kept.{bytesOf}
 use Rattle.transitions.specs.Inside.Assigned.{keptOf}
 
--- the key whose number is k, and the bytes of its transition for n labels
-module _ (f : Formula) (A : List Label) (k : ℕ) where
-  abbrev pub kthKey : List Label
-  kthKey = getD (keys f A) k []
-
-  abbrev pub kthBytes : ℕ → List ℕ
-  kthBytes n = bytesOf (has (keptAt A f k)) n
+-- the bytes of transition k for n labels
+abbrev pub kthBytes : Formula → List Label → ℕ → ℕ → List ℕ
+kthBytes f A k n = bytesOf (has (keptAt A f k)) n
 
 pub record TransitionSays (#V : ℕ) (f : Formula) (A : List Label) (k : ℕ) : Type 0 where
   -- the bytes are 1 for the labels that the class of that key keeps
-  pub marks-are : (n : ℕ) → kthBytes f A k n ≡ bytesOf (isKept f A (kthKey f A k)) n
+  pub marks-are : (n : ℕ) → kthBytes f A k n ≡ bytesOf (isKept f A (keyAt f A k)) n
   -- the chosen labels among the kept are the key, and it has one for each variable
-  pub chosen-are : (n : ℕ) (chosen : List ℕ) → A ≡ map ℓ chosen → AllBelow n chosen → map ℓ (keptOf (kthBytes f A k n) chosen) ≡ kthKey f A k
-  pub key-has : length (kthKey f A k) ≡ #V
+  pub chosen-are : (n : ℕ) (chosen : List ℕ) → A ≡ map ℓ chosen → AllBelow n chosen → map ℓ (keptOf (kthBytes f A k n) chosen) ≡ keyAt f A k
+  pub key-has : length (keyAt f A k) ≡ #V
   -- in any order of A they are those of any branch of the class, and as many
   pub ordered-are : (R : Label → Label → Bool) (n : ℕ) (order : List ℕ) → OrderOf R A (map ℓ order) → AllBelow n order
-      → (b : List Label) → List·Memᴰ b (class f A (kthKey f A k)) → map ℓ (keptOf (kthBytes f A k n) order) ≡ those (has b) (map ℓ order)
+      → (b : List Label) → List·Memᴰ b (class f A (keyAt f A k)) → map ℓ (keptOf (kthBytes f A k n) order) ≡ those (has b) (map ℓ order)
   pub ordered-as-many : (R : Label → Label → Bool) (n : ℕ) (order : List ℕ) → OrderOf R A (map ℓ order) → AllBelow n order
       → length (keptOf (kthBytes f A k n) order) ≡ #V
 

@@ -4,7 +4,6 @@ use mathlib.Core.List.{List, map}
 use mathlib.Core.Path.{_≡_}
 use lib.ListN.{length, take}
 use Rattle.paper.specs.Limits.{mostChosen, mostRows, mostTransitions, mostVariables}
-use Rattle.paper.specs.Order.{order}
 use Rattle.entries.specs.Front.{inFront}
 use Rattle.table.specs.declared.Layout.{Layout}
 use Rattle.filling.specs.declared.Filled.{Filled}
