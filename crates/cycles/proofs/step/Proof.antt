@@ -1,17 +1,36 @@
 -- Each way out of a step has its law: the last segment is done, its index's finger has run out, a new index is put on the path,
 -- or segments join.
+use Prim.Native.Nat.{_-_, _<_}
 use native.Mathlib.Omega.{arith}
-use Rattle.cycles.proofs.Walks.{outside-yes}
+use lib.ListN.{length, getD}
+use Rattle.paper.specs.Limits.{slots}
+use Rattle.cycles.proofs.Walks.{base, outside-yes}
 use Rattle.cycles.proofs.Steps.{ahead-of, bound-in, index-in, two-or-more, step-pop, step-back, step-push, step-merge}
 use borrow.Author.Needs.{needs}
 use Rattle.cycles.proofs.step.Statement.{statement}
 use Rattle.cycles.proofs.step.Tie as tie
 
+-- the path has a segment, which begins below the path's end
+module _ (c : tie.Start) where
+  some : 0 < c .args .w .top
+  some = c .pre .2 .some (c .pre .1)
+
+  bounded : let a = c .args in (base (a .bound .now) (a .w .top) < a .w .len) × (a .w .len < slots)
+  bounded = let b = bound-in _ _ _ _ _ _ _ _ (c .pre .2) some in (b .0, omega (arith, b .1, c .pre .0 .choice .few))
+
+-- where the last segment is not done, the walk stands on a number of it
+module _ (c : tie.Else1) where
+  abbrev entry : tie.Start
+  entry = c .before .before .before .before .before
+
+  ahead : let a = entry .args in base (a .bound .now) (a .w .top) < a .w .at
+  ahead = ahead-of _ _ _ _ _ _ _ _ (entry .pre .2) (some entry) (c .if1 .left)
+
+  number : let j = getD (entry .args .stack .now) (entry .args .w .at - 1) 0 in (j < length (entry .args .chosen .now)) × (j < slots)
+  number = let j = index-in _ _ _ _ _ _ _ _ (entry .pre .2) (some entry) ahead in (j, omega (arith, entry .pre .0 .choice .few))
+
 sub-b : tie.Need-sub-b
-sub-b c =
-    let a = c .before .before .before .pre in
-    let h = a .2 .some (a .1) in
-    omega arith
+sub-b c = let h = some (c .before .before .before) in omega arith
 
 mul-b : tie.Need-mul-b
 mul-b c = search needs
@@ -20,44 +39,29 @@ element-copy-out-b : tie.Need-element-copy-out-b
 element-copy-out-b c = search needs
 
 cast-b : tie.Need-cast-b
-cast-b c =
-    let a = c .before .before .before .before .pre in
-    let h = a .2 .some (a .1) in
-    let b = bound-in _ _ _ _ _ _ _ _ (a .2) h in
-    omega (arith, b .0, b .1, a .0 .choice .few)
+cast-b c = omega (arith, bounded (c .before .before .before .before))
 
 finish-requires : tie.Need-finish-requires
 finish-requires c κs =
-    let a = c .before .before .before .before .before .before .before .pre in
-    let h = a .2 .some (a .1) in
-    let b = bound-in _ _ _ _ _ _ _ _ (a .2) h in
-    let s = a .0 .choice .few in
-    (a .2 .marks, omega (arith, b .1), omega (arith, b .0), λ p hp. omega (arith, a .2 .on p hp .0))
+    let entry = c .before .before .before .before .before .before .before in
+    let walk = entry .pre .2 in
+    let few = entry .pre .0 .choice .few in
+    (walk .marks, omega (arith, bounded entry), omega (arith, bounded entry), λ p hp. omega (arith, walk .on p hp .0))
 
 counted-requires : tie.Need-counted-requires
 counted-requires c κs = search needs
 
 sub-w : tie.Need-sub-w
-sub-w c =
-    let a = c .before .before .before .before .before .before .before .before .before .before .pre in
-    let h = a .2 .some (a .1) in
-    omega arith
+sub-w c = let h = some (c .before .before .before .before .before .before .before .before .before .before) in omega arith
 
 returns : tie.Need-returns
 returns c =
     let entry = c .before .before .before .before .before .before .before .before .before .before in
     let if1 = c .before .before .before .before .before .if1 in
-    let finish = c .before .before .finish in
-    let a = entry .pre in
-    let h = a .2 .some (a .1) in
-    step-pop _ _ _ _ _ _ _ _ (a .2) h _ (a .3) (if1 .taken) _ _ (finish .ensures) (c .counted .ensures)
+    step-pop _ _ _ _ _ _ _ _ (entry .pre .2) (some entry) _ (entry .pre .3) (if1 .taken) _ _ (c .before .before .finish .ensures) (c .counted .ensures)
 
 sub-j : tie.Need-sub-j
-sub-j c =
-    let a = c .before .before .before .before .before .pre in
-    let h = a .2 .some (a .1) in
-    let u = ahead-of _ _ _ _ _ _ _ _ (a .2) h (c .if1 .left) in
-    omega arith
+sub-j c = let u = ahead c in omega arith
 
 mul-j : tie.Need-mul-j
 mul-j c = search needs
@@ -66,67 +70,34 @@ element-copy-out-j : tie.Need-element-copy-out-j
 element-copy-out-j c = search needs
 
 cast-j : tie.Need-cast-j
-cast-j c =
-    let a = c .before .before .before .before .before .before .pre in
-    let h = a .2 .some (a .1) in
-    let u = ahead-of _ _ _ _ _ _ _ _ (a .2) h (c .before .if1 .left) in
-    let j = index-in _ _ _ _ _ _ _ _ (a .2) h u in
-    omega (arith, a .0 .choice .few)
+cast-j c = omega (arith, number (c .before) .1)
 
 mul-seek : tie.Need-mul-seek
-mul-seek c =
-    let a = c .before .before .before .before .before .before .before .pre in
-    let h = a .2 .some (a .1) in
-    let u = ahead-of _ _ _ _ _ _ _ _ (a .2) h (c .before .before .if1 .left) in
-    let j = index-in _ _ _ _ _ _ _ _ (a .2) h u in
-    omega (arith, a .0 .choice .few)
+mul-seek c = omega (arith, number (c .before .before) .1)
 
 element-copy-out-seek : tie.Need-element-copy-out-seek
-element-copy-out-seek c =
-    let a = c .before .before .before .before .before .before .before .pre in
-    let h = a .2 .some (a .1) in
-    let u = ahead-of _ _ _ _ _ _ _ _ (a .2) h (c .before .before .if1 .left) in
-    let j = index-in _ _ _ _ _ _ _ _ (a .2) h u in
-    omega (arith, a .0 .choice .few)
+element-copy-out-seek c = omega (arith, number (c .before .before) .1)
 
 seek-requires : tie.Need-seek-requires
 seek-requires c κs =
-    let a = c .before .before .before .before .before .before .before .before .pre in
-    let h = a .2 .some (a .1) in
-    let u = ahead-of _ _ _ _ _ _ _ _ (a .2) h (c .before .before .before .if1 .left) in
-    let j = index-in _ _ _ _ _ _ _ _ (a .2) h u in
-    let b = bound-in _ _ _ _ _ _ _ _ (a .2) h in
-    (a .0, record { low = omega (arith, b .0, b .1, a .0 .choice .few); here = j; finger = a .2 .within _ j })
+    let entry = c .before .before .before .before .before .before .before .before in
+    let here = number (c .before .before .before) .0 in
+    (entry .pre .0, record { low = omega (arith, bounded entry); here = here; finger = entry .pre .2 .within _ here })
 
 mul-finger : tie.Need-mul-finger
-mul-finger c =
-    let a = c .before .before .before .before .before .before .before .before .before .pre in
-    let h = a .2 .some (a .1) in
-    let u = ahead-of _ _ _ _ _ _ _ _ (a .2) h (c .before .before .before .before .if1 .left) in
-    let j = index-in _ _ _ _ _ _ _ _ (a .2) h u in
-    omega (arith, a .0 .choice .few)
+mul-finger c = omega (arith, number (c .before .before .before .before) .1)
 
 element-write-finger : tie.Need-element-write-finger
-element-write-finger c =
-    let a = c .before .before .before .before .before .before .before .before .before .pre in
-    let h = a .2 .some (a .1) in
-    let u = ahead-of _ _ _ _ _ _ _ _ (a .2) h (c .before .before .before .before .if1 .left) in
-    let j = index-in _ _ _ _ _ _ _ _ (a .2) h u in
-    omega (arith, a .0 .choice .few)
+element-write-finger c = omega (arith, number (c .before .before .before .before) .1)
 
 sub-w-2 : tie.Need-sub-w-2
-sub-w-2 c =
-    let a = c .before .before .before .before .before .before .before .before .before .before .pre in
-    let h = a .2 .some (a .1) in
-    let u = ahead-of _ _ _ _ _ _ _ _ (a .2) h (c .before .before .before .before .before .if1 .left) in
-    omega arith
+sub-w-2 c = let u = ahead (c .before .before .before .before .before) in omega arith
 
 returns-2 : tie.Need-returns-2
 returns-2 c =
-    let a = c .before .before .before .before .before .before .before .before .before .before .pre in
-    let h = a .2 .some (a .1) in
-    let u = ahead-of _ _ _ _ _ _ _ _ (a .2) h (c .before .before .before .before .before .if1 .left) in
-    step-back _ _ _ _ _ _ _ _ (a .2) h _ (a .3) u _ _ (c .before .seek .ensures .next) (c .if2 .taken)
+    let entry = c .before .before .before .before .before .before .before .before .before .before in
+    let u = ahead (c .before .before .before .before .before) in
+    step-back _ _ _ _ _ _ _ _ (entry .pre .2) (some entry) _ (entry .pre .3) u _ _ (c .before .seek .ensures .next) (c .if2 .taken)
 
 mul-if3 : tie.Need-mul-if3
 mul-if3 c = search needs
@@ -175,10 +146,10 @@ add-w-3 c = search needs
 
 returns-3 : tie.Need-returns-3
 returns-3 c =
-    let a = c .before .before .before .before .before .before .before .before .before .before .before .before .pre in
-    let h = a .2 .some (a .1) in
-    let u = ahead-of _ _ _ _ _ _ _ _ (a .2) h (c .before .before .before .before .before .before .before .if1 .left) in
-    step-push _ _ _ _ _ _ _ _ (a .2) h _ (a .3) u _ _ (c .before .before .before .seek .ensures .next) (c .before .before .if2 .left) (c .if3 .taken)
+    let entry = c .before .before .before .before .before .before .before .before .before .before .before .before in
+    let seek = c .before .before .before .seek in
+    let u = ahead (c .before .before .before .before .before .before .before) in
+    step-push _ _ _ _ _ _ _ _ (entry .pre .2) (some entry) _ (entry .pre .3) u _ _ (seek .ensures .next) (c .before .before .if2 .left) (c .if3 .taken)
 
 mul-merged : tie.Need-mul-merged
 mul-merged c = search needs
@@ -188,37 +159,29 @@ element-copy-out-merged c = search needs
 
 cast-merged : tie.Need-cast-merged
 cast-merged c =
-    let a = c .before .before .before .before .before .before .before .before .before .before .before .before .before .before .pre in
-    let h = a .2 .some (a .1) in
+    let entry = c .before .before .before .before .before .before .before .before .before .before .before .before .before .before in
     let hit = c .before .before .before .before .before .seek .ensures .next .hit (c .before .before .before .before .if2 .left) .0 in
-    let b = bound-in _ _ _ _ _ _ _ _ (a .2) h in
-    omega (arith, outside-yes _ _ _ hit .1, b .0, b .1, a .0 .choice .few)
+    omega (arith, outside-yes _ _ _ hit .1, bounded entry)
 
 sub-merged : tie.Need-sub-merged
 sub-merged c =
-    let a = c .before .before .before .before .before .before .before .before .before .before .before .before .before .before .pre in
-    let h = a .2 .some (a .1) in
+    let entry = c .before .before .before .before .before .before .before .before .before .before .before .before .before .before in
     let hit = c .before .before .before .before .before .seek .ensures .next .hit (c .before .before .before .before .if2 .left) .0 in
-    two-or-more _ _ _ _ _ _ _ _ (a .2) h _ hit (c .before .before .if3 .left)
+    two-or-more _ _ _ _ _ _ _ _ (entry .pre .2) (some entry) _ hit (c .before .before .if3 .left)
 
 merged-requires : tie.Need-merged-requires
 merged-requires c κs =
-    let a = c .before .before .before .before .before .before .before .before .before .before .before .before .before .before .pre in
-    let h = a .2 .some (a .1) in
-    let b = bound-in _ _ _ _ _ _ _ _ (a .2) h in
-    (omega (arith, a .2 .tops, b .1, a .0 .choice .few), h, a .2 .first)
+    let entry = c .before .before .before .before .before .before .before .before .before .before .before .before .before .before in
+    (omega (arith, entry .pre .2 .tops, bounded entry), some entry, entry .pre .2 .first)
 
 returns-4 : tie.Need-returns-4
 returns-4 c =
     let entry = c .before .before .before .before .before .before .before .before .before .before .before .before .before .before .before in
-    let if1 = c .before .before .before .before .before .before .before .before .before .before .if1 in
     let seek = c .before .before .before .before .before .before .seek in
     let if2 = c .before .before .before .before .before .if2 in
     let if3 = c .before .before .before .if3 in
-    let a = entry .pre in
-    let h = a .2 .some (a .1) in
-    let u = ahead-of _ _ _ _ _ _ _ _ (a .2) h (if1 .left) in
-    step-merge _ _ _ _ _ _ _ _ (a .2) h _ (a .3) u _ _ (seek .ensures .next) (if2 .left) (if3 .left) _ (c .merged .ensures)
+    let u = ahead (c .before .before .before .before .before .before .before .before .before .before) in
+    step-merge _ _ _ _ _ _ _ _ (entry .pre .2) (some entry) _ (entry .pre .3) u _ _ (seek .ensures .next) (if2 .left) (if3 .left) _ (c .merged .ensures)
 
 pub step-spec : {M : Type 1} → statement M
 step-spec =
