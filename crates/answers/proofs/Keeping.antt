@@ -21,6 +21,7 @@ use Rattle.paper.proofs.Keys.{of-key, to-key}
 use Rattle.paper.proofs.Numbers.{numbers-say}
 use Rattle.paper.specs.Statements.{NumbersSay}
 use Rattle.paper.proofs.Order.{reported-is-order}
+use Rattle.entries.specs.Front.{inFront}
 use Rattle.table.specs.declared.Layout.{Layout}
 use Rattle.written.specs.Tables.{formulaIn}
 use Rattle.written.specs.Inside.Understood.{Understood}
@@ -30,7 +31,7 @@ use Rattle.written.proofs.Words.{map-back, word-mem}
 use Rattle.rows.specs.Inside.Walk.{Walkable}
 use Rattle.keys.specs.declared.Distinct.{Distinct}
 use Rattle.marks.specs.Marks.{isMarked}
-use Rattle.marks.specs.Inside.Chosen.{Marked, AllBelow}
+use Rattle.marks.specs.Inside.Chosen.{MarkedExactly, AllBelow}
 use Rattle.keys.specs.Inside.Keys.{keysAt}
 use Rattle.verdict.specs.declared.Accepted.{Accepted}
 use Rattle.strategy.specs.Judge.{proposalIn}
@@ -42,8 +43,13 @@ use Rattle.transitions.proofs.MarkedBytes.{length-bytes}
 use Rattle.transitions.proofs.Words.{those-same, kept-labels, as-many-ordered}
 use Rattle.transitions.proofs.Numbered.{transition-says, transition-keepable}
 use Rattle.answers.specs.Requests.{reported, keyOf, keptMarks, assignedOf}
-use Rattle.answers.specs.Inside.Judged.{Amounts, AcceptedAs, Ordered, Kept}
+use Rattle.answers.specs.declared.numbered.Basis.{Basis}
+use Rattle.answers.specs.Inside.Judged.{Amounts, AcceptedAs, Ordered, Based, BasedExactly, Assigned}
 use Rattle.answers.proofs.Accepted.{is-sound, is-understood, is-strategy, count-is, few-transitions, few-chosen, reported-length}
+
+-- what is made to work the transitions out from serves for it
+pub is-based : (words : List ℕ) (l : Layout) {basis : Basis} → BasedExactly words l basis → Based words l (basis .marks) (basis .own)
+is-based words l b = record { marked = b .marked .marked; own-are = b .own-are }
 
 relabelled : (ls : List Label) → map ℓ (map (λ (i : Label). i .0) ls) ≡ ls
 relabelled = map-back (λ (i : Label). i .0) ℓ (λ i. refl)
@@ -74,10 +80,10 @@ module _ (words : List ℕ) (a : Accepted) (e : AcceptedAs words a) where
   abbrev lentChosen : List ℕ
   lentChosen = take (length words - l .«chosen_at») (drop (l .«chosen_at») words)
 
-  pub rows-lent : lentRows ≡ rowsIn words l
+  rows-lent : lentRows ≡ rowsIn words l
   rows-lent = rest words (l .«rows_at»)
 
-  pub chosen-lent : lentChosen ≡ chosenIn words l
+  chosen-lent : lentChosen ≡ chosenIn words l
   chosen-lent =
       let n : length words - l .«chosen_at» ≡ l .chosen = omega (arith, u .all-words) in
       ap (λ n. take n (drop (l .«chosen_at») words)) n
@@ -88,17 +94,16 @@ module _ (words : List ℕ) (a : Accepted) (e : AcceptedAs words a) where
   pub lent-below : (n : ℕ) → l .rows ≤ n → AllBelow n lentChosen
   lent-below n h = rw chosen-lent (λ k i. let b = chosen-below k i in omega arith)
 
-  lent-marked : {marks : List ℕ} → Marked (map ℓ lentChosen) marks → Marked A marks
-  lent-marked {marks} m = subst (λ ws. Marked (map ℓ ws) marks) chosen-lent m
-
   pub lent-walkable : Walkable lentRows (l .rows) 0
   lent-walkable = rw rows-lent (walkable (parts-of words l (is-sound words a e)))
 
+  -- what the transitions are worked out from
+  pub based-so : {basis : Basis} → MarkedExactly (map ℓ lentChosen) (basis .marks) → basis .own ≡ keysAt lentRows (basis .marks) 64 0
+      → BasedExactly words l basis
+  based-so {basis} m n = record { marked = subst (λ ws. MarkedExactly (map ℓ ws) (basis .marks)) chosen-lent m; own-are = rw rows-lent at n }
+
   pub marks-length : (k : ℕ) → length (keptMarks words l k) ≡ l .rows
   marks-length k = rw (u .labels-are) (length-bytes (isKept f A (keyOf words l k)) (l .rows))
-
-  pub marks-fit : (k : ℕ) → length (keptMarks words l k) ≤ 4096
-  marks-fit k = omega (arith, marks-length k, rows-fit)
 
   is-order : OrderOf (before f A) A (reported words l)
   is-order = reported-is-order (l .variables) f A (is-strategy words a e .acyclic)
@@ -115,24 +120,23 @@ module _ (words : List ℕ) (a : Accepted) (e : AcceptedAs words a) where
         let s = is-strategy words a e in
         transition-says (l .variables) f A (u .well-formed) (s .homogeneous) (s .minimal) (u .within .chosen-ascend) k among
 
-    pub keepable : {marks out : List ℕ} {own : Distinct} → Marked (map ℓ lentChosen) marks → own ≡ keysAt lentRows marks 64 0 → length out ≡ 4096
-        → Keepable lentRows marks out (l .rows) 0 64 own k true
-    keepable {marks} {out} {own} m own-are room =
+    pub keepable : {marks out : List ℕ} {own : Distinct} → Based words l marks own → length out ≡ 4096 → Keepable lentRows marks out (l .rows) 0 64 own k true
+    keepable {marks} {out} {own} b room =
         let s = is-strategy words a e in
         rw rows-lent
         (transition-keepable (l .variables) f A (u .well-formed) (s .homogeneous) (s .minimal) (u .within .chosen-ascend) k among
-        (readsIn words l) refl (walkable (parts-of words l (is-sound words a e))) (lent-marked m) (omega (arith, count-is words a e, few-transitions words a e))
-        own (rw rows-lent at own-are) out (omega (arith, u .most-rows)))
+        (readsIn words l) refl (walkable (parts-of words l (is-sound words a e))) (b .marked) (omega (arith, count-is words a e, few-transitions words a e))
+        own (b .own-are) out (omega (arith, u .most-rows)))
 
     -- the bytes
     marks-are : keptMarks words l k ≡ kthBytes f A k (l .rows)
     marks-are = rw (u .labels-are) (sym (says .marks-are (l .rows)))
 
-    pub bytes-left : {marks lent left : List ℕ} → Marked (map ℓ lentChosen) marks → MarkedKept lentRows marks (l .rows) k lent left
-        → left ≡ keptMarks words l k ++ drop (length (keptMarks words l k)) lent
-    bytes-left {lent = lent} m s =
-        let b = rw rows-lent at (s .bytes-are A (lent-marked m) (readsIn words l)) in
-        b ∙ ap (λ bs. bs ++ drop (l .rows) lent) (sym marks-are) ∙ ap (λ n. keptMarks words l k ++ drop n lent) (sym (marks-length k))
+    pub bytes-left : {marks lent left : List ℕ} {own : Distinct} → Based words l marks own → MarkedKept lentRows marks (l .rows) k lent left
+        → left ≡ inFront (keptMarks words l k) lent
+    bytes-left {lent = lent} b s =
+        let bytes = rw rows-lent at (s .bytes-are A (b .marked) (readsIn words l)) in
+        bytes ∙ ap (λ bs. bs ++ drop (l .rows) lent) (sym marks-are) ∙ ap (λ n. keptMarks words l k ++ drop n lent) (sym (marks-length k))
 
     -- what the chosen labels that are kept are
     kept-in-key : (x : Label) → has A x ≡ true → has (keptAt A f k) x ≡ has (keyOf words l k) x
@@ -150,7 +154,7 @@ module _ (words : List ℕ) (a : Accepted) (e : AcceptedAs words a) where
         ∙ says .key-has
 
     -- once the bytes stand in front
-    module _ (lent left : List ℕ) (stands : left ≡ keptMarks words l k ++ drop (length (keptMarks words l k)) lent) where
+    module _ (lent left : List ℕ) (stands : left ≡ inFront (keptMarks words l k) lent) where
       pub front-is : take (l .rows) left ≡ keptMarks words l k
       front-is = ap (take (l .rows)) stands ∙ take-at (keptMarks words l k) (drop (length (keptMarks words l k)) lent) (l .rows) (marks-length k)
 
@@ -205,18 +209,32 @@ module _ (words : List ℕ) (a : Accepted) (e : AcceptedAs words a) where
         -- what is left in words lent for them
         module _ (labels labels′ : List ℕ) (filled : ℕ) (n : filled ≡ length (keptOf (take (l .rows) left) placed))
             (after : labels′ ≡ keptOf (take (l .rows) left) placed ++ drop filled labels) where
-          pub assigned-there : (filled ≤ length labels′) × (filled ≤ 2048)
-          assigned-there = (
-            omega (arith, n, simp length-append at (ap length after)),
-            omega (arith, n, those-le (isMarked (take (l .rows) left)) placed, placed-length, few-chosen words a e),
-          )
+          pub assigned-so : Assigned words l k lent left labels labels′ filled
+          assigned-so =
+              let many = n ∙ ap length assigned-are in
+              record {
+                bytes = stands;
+                in-order = after ∙ ap (λ ws. ws ++ drop filled labels) assigned-are ∙ ap (λ m. assignedOf words l k ++ drop m labels) many;
+                many = many;
+              }
 
-          pub assigned-front : take filled labels′ ≡ assignedOf words l k
-          assigned-front = ap (take filled) after ∙ take-at _ (drop filled labels) filled (sym n) ∙ assigned-are
+    -- once the chosen labels stand in front: they are the assignments, and V
+    module _ {kept kept′ labels labels′ : List ℕ} {n : ℕ} (p : Assigned words l k kept kept′ labels labels′ n) where
+      pub assigned-many : n ≡ l .variables
+      assigned-many = p .many ∙ assigned-length
 
-    pub bytes-kept : {marks lent left : List ℕ} {n : ℕ} → Marked (map ℓ lentChosen) marks → MarkedKept lentRows marks (l .rows) k lent left
-        → n ≡ length (keptOf (take (l .rows) left) lentChosen) → Kept words l k lent left n
-    bytes-kept {lent = lent} {left = left} m s n = record { bytes = bytes-left m s; many = n ∙ chosen-counted lent left (bytes-left m s) }
+      pub assigned-as-key : n ≡ length (keyOf words l k)
+      assigned-as-key = assigned-many ∙ sym (says .key-has)
+
+      pub assigned-there : (n ≤ length labels′) × (n ≤ 2048)
+      assigned-there = (
+        omega (arith, p .many, ap length (p .in-order), length-append (assignedOf words l k) (drop (length (assignedOf words l k)) labels)),
+        omega (arith, assigned-many, u .most-variables),
+      )
+
+      pub assigned-front : take n labels′ ≡ assignedOf words l k
+      assigned-front =
+          ap (take n) (p .in-order) ∙ take-at (assignedOf words l k) (drop (length (assignedOf words l k)) labels) n (sym (p .many))
 
 pub amounts : (words : List ℕ) (a : Accepted) → AcceptedAs words a → Amounts words a
 amounts words a e = record {

@@ -1,38 +1,37 @@
 // Transition k and its assignments, for a caller that has judged the words. 15, then 18, then 16; nothing is written before all
 // are passed.
+ghost use mathlib.Core.Path.{_≡_};
+ghost use Prim.Native.Nat.{_<_};
 ghost use lib.ListN.{length};
+ghost use Rattle.paper.specs.Limits.{mostRows};
 ghost use Rattle.filling.specs.Filling.{Fills};
 ghost use Rattle.answers.specs.Requests.{transitionOutcome, assignmentsOutcome};
-ghost use Rattle.answers.specs.Inside.Judged.{AcceptedAs, Ordered, Asked, Kept};
+ghost use Rattle.answers.specs.Inside.Judged.{AcceptedAs, Ordered, Kept};
+use crate::numbered::basis_of;
+use crate::numbered::put_assigned;
+use crate::numbered::put_kept;
 use filling::Filled;
 use filling::fill_bytes;
 use filling::fill_words;
 use filling::refused;
-use keys::keys_of;
-use marks::marks_of;
-use paper::Label;
-use paper::limits::MOST_DEPTH;
 use paper::limits::MOST_ROWS;
 use paper::limits::SLOTS;
 use paper::refusals::NO_SUCH_TRANSITION;
 use paper::refusals::UNEVEN;
 use transitions::assigned::count_kept;
-use transitions::assigned::fill_assigned;
-use transitions::kept::mark_kept;
 use verdict::Accepted;
 
 // Puts the bytes of transition k in front; gives how many chosen labels it keeps.
 fn keep(words: &[u16], a: Accepted, k: usize, kept: &mut [u8]) -> usize
-    requires { ⌜ Asked (now words) a k (now kept) ⌝ }
+    requires { ⌜ AcceptedAs (now words) a × (k < a .transitions) × (length (now kept) ≡ mostRows) ⌝ }
     ensures { λ r. ⌜ Kept (now (words .entry)) (a .layout) k (now (kept .entry)) (now (kept .exit)) r ⌝ }
 {
+    let basis = basis_of(words, a);
+    let marks = basis.marks;
+    put_kept(words, a, &marks, basis.own, k, kept);
     let l = a.layout;
-    let rows = l.rows_at;
     let chosen = l.chosen_at;
     let n = l.rows;
-    let marks = marks_of(&words[chosen..]);
-    let own = keys_of(&words[rows..], &marks, n as u16, Label(0), MOST_DEPTH);
-    mark_kept(&words[rows..], &marks, n as u16, own, k as u64, kept);
     count_kept(&words[chosen..], &kept[..n])
 }
 
@@ -57,7 +56,6 @@ pub fn transition_of(words: &[u16], a: Accepted, k: usize, out: &mut [u8]) -> Fi
 }
 
 // The chosen labels of transition k in reported order, V words, at the front of `out`; `order` begins with the reported order.
-// 15 and 18 are asked as the transition's bytes are put in a local array, which has room for them.
 pub fn assignments_of(
     words: &[u16],
     a: Accepted,
@@ -70,14 +68,27 @@ pub fn assignments_of(
         ⌜ Fills (assignmentsOutcome (now (words .entry)) k (length (now (out .entry))) (a .layout) (a .transitions))
         (now (out .entry)) (now (out .exit)) r ⌝ }
 {
-    let mut kept = [0u8; MOST_ROWS];
-    let marked = transition_of(words, a, k, &mut kept);
-    let Filled::Done(_) = marked else {
-        return marked;
-    };
     let l = a.layout;
-    let n = l.rows;
+    let count = a.transitions;
+    if count <= k {
+        return refused(NO_SUCH_TRANSITION, count);
+    }
+    let basis = basis_of(words, a);
+    let marks = basis.marks;
+    let mut kept = [0u8; MOST_ROWS];
     let mut labels = [0u16; SLOTS];
-    let filled = fill_assigned(order, l.chosen, &kept[..n], &mut labels);
-    fill_words(&labels, filled, out)
+    let assigned = put_assigned(
+        words,
+        a,
+        &marks,
+        basis.own,
+        order,
+        k,
+        &mut kept,
+        &mut labels,
+    );
+    if assigned != l.variables {
+        return refused(UNEVEN, k);
+    }
+    fill_words(&labels, assigned, out)
 }

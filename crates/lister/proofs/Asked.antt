@@ -1,30 +1,26 @@
 -- What listing bytes asks for is there: their words and their judgement, and of accepted ones their order, the bounds of their counts, what
 -- their lines are worked out from, and room.
-use Prim.Native.Nat.{ℕ, _+_, _-_, _*_, _/_, _≤_}
+use Prim.Native.Nat.{ℕ, _+_, _*_, _/_, _≤_}
 use native.Mathlib.Omega.{arith}
 use mathlib.Core.Path.{_≡_, refl, sym, ap, subst, _∙_}
 use mathlib.Core.Bool.{Bool, true, false, cond}
-use mathlib.Core.List.{List, map}
-use lib.ListN.{length, take, drop, length-map, length-take}
+use mathlib.Core.List.{List}
+use lib.ListN.{length, take, length-map, length-take}
 use lib.Seq.{length-take-le}
 use Rattle.paper.specs.declared.Refusal.{Refusal}
-use Rattle.paper.specs.Formula.{ℓ}
 use Rattle.entries.specs.Front.{inFront}
-use Rattle.table.specs.Table.{rowsIn}
-use Rattle.marks.specs.Inside.Chosen.{Marked}
-use Rattle.keys.specs.Inside.Keys.{keysAt}
 use Rattle.verdict.specs.declared.Accepted.{Accepted}
 use Rattle.verdict.specs.declared.Judged.{Judged}
 use Rattle.verdict.specs.declared.Judged.the-variants as judged
 use Rattle.verdict.specs.Verdict.{refusedAt}
-use Rattle.strategy.specs.Judge.{proposalIn, leftBy, orderIn, judgedOf}
+use Rattle.strategy.specs.Judge.{leftBy, orderIn, judgedOf}
 use Rattle.input.specs.Bytes.{wordsOf, areOdd, judgedBytes, orderLeftOf, JudgedBytes}
 use Rattle.answers.specs.Requests.{reported}
-use Rattle.answers.specs.Inside.Judged.{AcceptedAs, Ordered}
+use Rattle.answers.specs.declared.numbered.Basis.{Basis}
+use Rattle.answers.specs.Inside.Judged.{AcceptedAs, Ordered, BasedExactly}
 use Rattle.answers.proofs.Accepted.{is-understood, few-transitions, few-chosen, reported-length, order-in-front, front-as-long}
-use Rattle.answers.proofs.Keeping.{rows-lent, chosen-lent}
-use Rattle.lister.specs.declared.basis.Basis.{Basis}
-use Rattle.lister.specs.Inside.Steps.{Headed, ListableIf, Based, longest, Prepared}
+use Rattle.answers.proofs.Keeping.{is-based}
+use Rattle.lister.specs.Inside.Steps.{Headed, ListableIf, BasedIf, longest, Prepared}
 
 -- what the judgement of bytes leaves
 module _ {bytes order₀ order : List ℕ} {r : Judged} (j : JudgedBytes bytes order₀ order r) where
@@ -73,26 +69,16 @@ headed {words} {order} {a = a} o room =
       room = room;
     }
 
--- the lines of its transitions too, by the marks of its chosen labels and the keys of its formula, as they are counted
+-- the lines of its transitions too, by what they are worked out from
 module _ {words : List ℕ} {j : Judged} {basis : Basis} where
-  pub accepted-basis : {a : Accepted} → j ≡ judged.Accepted a → AcceptedAs words a
-      → Marked (map ℓ (take (length words - a .layout .«chosen_at») (drop (a .layout .«chosen_at») words))) (basis .marks)
-      → basis .own ≡ keysAt (take (length words - a .layout .«rows_at») (drop (a .layout .«rows_at») words)) (basis .marks) 64 0 → Based words j basis
-  accepted-basis {a} e accepts m n = record {
-    marked = λ b q. let same : a ≡ b = cc in
-        subst (λ x. Marked (proposalIn words (x .layout)) (basis .marks)) same (rw (chosen-lent words a accepts) at m);
-    own-are = λ b q. let same : a ≡ b = cc in
-        subst (λ x. basis .own ≡ keysAt (rowsIn words (x .layout)) (basis .marks) 64 0) same (rw (rows-lent words a accepts) at n);
-  }
+  pub accepted-basis : {a : Accepted} → j ≡ judged.Accepted a → BasedExactly words (a .layout) basis → BasedIf words j basis
+  accepted-basis {a} e based b q = let same : a ≡ b = cc in subst (λ x. BasedExactly words (x .layout) basis) same based
 
-  pub refused-basis : {x : Refusal} → j ≡ judged.Refused x → Based words j basis
-  refused-basis e = record {
-    marked = λ a q. let z : _≡_ {A = ℕ} 0 1 = cc in absurd (omega arith);
-    own-are = λ a q. let z : _≡_ {A = ℕ} 0 1 = cc in absurd (omega arith);
-  }
+  pub refused-basis : {x : Refusal} → j ≡ judged.Refused x → BasedIf words j basis
+  refused-basis e a q = let z : _≡_ {A = ℕ} 0 1 = cc in absurd (omega arith)
 
-  pub listable-if : {bytes order : List ℕ} → Prepared bytes words j order → Based words j basis → ListableIf words j (basis .marks) (basis .own) order
-  listable-if p b a e = record { ordered = p .ordered a e; marked = b .marked a e; own-are = b .own-are a e }
+  pub listable-if : {bytes order : List ℕ} → Prepared bytes words j order → BasedIf words j basis → ListableIf words j (basis .marks) (basis .own) order
+  listable-if p b a e = record { ordered = p .ordered a e; based = is-based words (a .layout) (b a e) }
 
 pub line-room : (words : List ℕ) (a : Accepted) → AcceptedAs words a → (room : ℕ) → room ≡ 65536 → longest (a .layout) ≤ room
 line-room words a e room n = let u = is-understood words a e in omega (arith, u .most-variables, u .most-rows)

@@ -7,7 +7,7 @@ use mathlib.Core.Path.{_≡_, refl, sym, ap, _∙_}
 use mathlib.Core.Bool.{Bool, true, false, cond}
 use mathlib.Core.List.{List, _∷_, _++_, map, append-assoc, append-nil}
 use lib.Dec.{eqb, ltb}
-use lib.ListN.{length, take, drop}
+use lib.ListN.{length, take}
 use lib.Seq.{length-take-le}
 use borrow.Author.Tests.{lt-ltb, le-ltb}
 use Rattle.paper.specs.declared.Label.{Label}
@@ -18,16 +18,12 @@ use Rattle.table.specs.declared.Layout.{Layout}
 use Rattle.written.specs.Tables.{formulaIn}
 use Rattle.written.specs.Written.{labelsOn}
 use Rattle.keys.specs.declared.Distinct.{Distinct}
-use Rattle.marks.specs.Inside.Chosen.{Marked}
 use Rattle.verdict.specs.declared.Accepted.{Accepted}
 use Rattle.strategy.specs.Judge.{proposalIn}
-use Rattle.transitions.specs.Inside.Kept.{Keepable, MarkedKept}
-use Rattle.transitions.specs.Inside.Assigned.{keptOf, Fillable}
-use Rattle.answers.specs.Requests.{keyOf, keptMarks, assignedOf}
-use Rattle.answers.specs.Inside.Judged.{AcceptedAs}
+use Rattle.answers.specs.Requests.{keyOf}
+use Rattle.answers.specs.Inside.Judged.{AcceptedAs, Assigned}
 use Rattle.answers.proofs.Accepted.{is-understood, few-transitions}
-use Rattle.answers.proofs.Keeping.{rows-lent, chosen-lent, rows-fit, keepable, bytes-left, front-is}
-use Rattle.answers.proofs.Keeping.{front-there, front-length, fillable, assigned-there, assigned-front, amounts}
+use Rattle.answers.proofs.Keeping.{rows-fit, front-is, front-there, front-length, assigned-many, assigned-there, assigned-front}
 use Rattle.marks.specs.Marks.{positionsFrom, positions}
 use Rattle.listing.specs.Text.{transitionLine}
 use Rattle.listing.specs.Inside.Placed.{Put}
@@ -122,63 +118,41 @@ module _ (words : List ℕ) (l : Layout) where
       pub no-room : length lent - at < longest l → count ≡ fitting words l (length lent) 0 k left
       no-room h = putting-stops (fits-no-more (length lent) at (k + count) (left - count) h)
 
--- The line of transition k, from what the walk and the choice leave.
+-- The line of transition k, from its bytes and its chosen labels.
 module _ {words : List ℕ} {a : Accepted} {marks : List ℕ} {own : Distinct} {order : List ℕ} (p : Listable words a marks own order) {k : ℕ}
-    (h : k < a .transitions) where
+    (h : k < a .transitions) {kept₀ kept labels₀ labels : List ℕ} {chosen : ℕ} (q : Assigned words (a .layout) k kept₀ kept labels₀ labels chosen) where
   abbrev l : Layout
   l = a .layout
 
   abbrev e : AcceptedAs words a
   e = p .ordered .accepted
 
-  abbrev lentRows : List ℕ
-  lentRows = take (length words - l .«rows_at») (drop (l .«rows_at») words)
+  pub rows-there : l .rows ≤ length kept
+  rows-there = front-there words a e k h kept₀ kept (q .bytes) .0
 
-  marked-lent : Marked (map ℓ (take (length words - l .«chosen_at») (drop (l .«chosen_at») words))) marks
-  marked-lent = rw (chosen-lent words a e) (p .marked)
+  pub rows-long : l .rows ≡ length (take (l .rows) kept)
+  rows-long = front-length words a e k h kept₀ kept (q .bytes)
 
-  pub walk-asks : {kept : List ℕ} → length kept ≡ 4096 → Keepable lentRows marks kept (l .rows) 0 64 own k true
-  walk-asks room = keepable words a e k h marked-lent (rw (rows-lent words a e) (p .own-are)) room
+  pub labels-there : chosen ≤ length labels
+  labels-there = assigned-there words a e k h q .0
 
-  -- once the walk is done
-  module _ {lent kept : List ℕ} (m : MarkedKept lentRows marks (l .rows) k lent kept) where
-    stands : kept ≡ keptMarks words l k ++ drop (length (keptMarks words l k)) lent
-    stands = bytes-left words a e k h marked-lent m
+  pub labels-long : chosen ≡ length (take chosen labels)
+  labels-long = sym (length-take-le chosen labels labels-there)
 
-    pub rows-there : l .rows ≤ length kept
-    rows-there = front-there words a e k h lent kept stands .0
+  pub line-fits : (at room : ℕ) → at + longest l ≤ room
+      → (k < 2 ^ 32) × (length (take (l .rows) kept) ≤ 65536) × (at + (23 + 6 * length (take chosen labels) + 6 * length (take (l .rows) kept)) ≤ room)
+  line-fits at room fits =
+      let few = few-transitions words a e in
+      let v = assigned-many words a e k h q in
+      let c = labels-long in
+      let n = rows-long in
+      let most = rows-fit words a e in
+      (omega arith, omega arith, omega arith)
 
-    pub rows-long : l .rows ≡ length (take (l .rows) kept)
-    rows-long = front-length words a e k h lent kept stands
-
-    pub choice-asks : {labels : List ℕ} → length labels ≡ 2048 → Fillable order (l .chosen) (take (l .rows) kept) labels
-    choice-asks {labels} room = fillable words a e k h lent kept stands order (p .ordered) labels room
-
-    -- once the chosen labels are put
-    module _ (labels labels′ : List ℕ) (filled : ℕ) (n : filled ≡ length (keptOf (take (l .rows) kept) (take (l .chosen) order)))
-        (after : labels′ ≡ keptOf (take (l .rows) kept) (take (l .chosen) order) ++ drop filled labels) where
-      pub labels-there : filled ≤ length labels′
-      labels-there = assigned-there words a e k h lent kept stands order (p .ordered) labels labels′ filled n after .0
-
-      pub labels-long : filled ≡ length (take filled labels′)
-      labels-long = sym (length-take-le filled labels′ labels-there)
-
-      assigned : take filled labels′ ≡ assignedOf words l k
-      assigned = assigned-front words a e k h lent kept stands order (p .ordered) labels labels′ filled n after
-
-      pub line-fits : (at room : ℕ) → at + (23 + 6 * l .variables + 6 * l .rows) ≤ room
-          → (k < 2 ^ 32) × (length (take (l .rows) kept) ≤ 65536) × (at + (23 + 6 * length (take filled labels′) + 6 * length (take (l .rows) kept)) ≤ room)
-      line-fits at room fits =
-          let few = few-transitions words a e in
-          let v = ap length assigned ∙ amounts words a e .assignments-are k h in
-          let n = rows-long in
-          let most = rows-fit words a e in
-          (omega arith, omega arith, omega arith)
-
-      pub line-put : {text text′ : List ℕ} {at after : ℕ} → Put text at (transitionLine k (take filled labels′) (positions (take (l .rows) kept))) text′ after
-          → Put text at (lineOf words l k) text′ after
-      unfolding lineOf positions
-      line-put q =
-          let u = is-understood words a e in
-          let kept-are = positions-of (isKept (formulaIn words l) (proposalIn words l) (keyOf words l k)) 0 (l .rows) in
-          rw (← assigned, u .labels-are, ← kept-are) (rw (front-is words a e k h lent kept stands, u .labels-are) at q)
+  pub line-put : {text text′ : List ℕ} {at after : ℕ} → Put text at (transitionLine k (take chosen labels) (positions (take (l .rows) kept))) text′ after
+      → Put text at (lineOf words l k) text′ after
+  unfolding lineOf positions
+  line-put put =
+      let u = is-understood words a e in
+      let kept-are = positions-of (isKept (formulaIn words l) (proposalIn words l) (keyOf words l k)) 0 (l .rows) in
+      rw (← assigned-front words a e k h q, u .labels-are, ← kept-are) (rw (front-is words a e k h kept₀ kept (q .bytes), u .labels-are) at put)

@@ -5,14 +5,13 @@ ghost use lib.ListN.{length, take};
 ghost use Rattle.listing.specs.Inside.Placed.{Put};
 ghost use Rattle.lister.specs.Listing.{headOf, lineOf};
 ghost use Rattle.lister.specs.Inside.Steps.{Headed, Listable, longest, LinesPut};
+use answers::numbered::put_assigned;
 use keys::Distinct;
 use listing::put_accepted;
 use listing::put_order;
 use listing::put_transition;
 use paper::limits::MOST_ROWS;
 use paper::limits::SLOTS;
-use transitions::assigned::fill_assigned;
-use transitions::kept::mark_kept;
 use verdict::Accepted;
 
 // How many lines were put, and how many bytes they are.
@@ -46,14 +45,12 @@ fn put_line(
     requires { ⌜ Listable (now words) a (now marks) own (now order) × (k < a .transitions) × (at + longest (a .layout) ≤ length (now text)) ⌝ }
     ensures { λ r. ⌜ Put (now (text .entry)) at (lineOf (now (words .entry)) (a .layout) k) (now (text .exit)) r ⌝ }
 {
-    let l = a.layout;
-    let rows = l.rows_at;
-    let n = l.rows;
     let mut kept = [0u8; MOST_ROWS];
-    mark_kept(&words[rows..], marks, n as u16, own, k as u64, &mut kept);
     let mut labels = [0u16; SLOTS];
-    let filled = fill_assigned(order, l.chosen, &kept[..n], &mut labels);
-    put_transition(text, at, k, &labels[..filled], &kept[..n])
+    let chosen = put_assigned(words, a, marks, own, order, k, &mut kept, &mut labels);
+    let l = a.layout;
+    let n = l.rows;
+    put_transition(text, at, k, &labels[..chosen], &kept[..n])
 }
 
 // The lines of the transitions from k on, until there might be no room for one more.

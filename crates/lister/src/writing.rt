@@ -1,7 +1,7 @@
 // The listing of the bytes that were read, written out part after part.
 ghost use Rattle.lister.specs.Listing.{listingOf};
 ghost use Rattle.lister.specs.Inside.Steps.{Prepared, Reached};
-use crate::basis::basis_of;
+use crate::basis::basis_if_accepted;
 use crate::output::Written;
 use crate::output::is_whole;
 use crate::output::nothing_yet;
@@ -16,7 +16,7 @@ pub fn write_listing(bytes: &[u8], words: &[u16], judged: Judged, order: &[u16])
     requires { ⌜ Prepared (now bytes) (now words) judged (now order) ⌝ }
     ensures { λ r. ⌜ Reached (listingOf (now (bytes .entry))) r ⌝ }
 {
-    let basis = basis_of(words, judged);
+    let basis = basis_if_accepted(words, judged);
     let marks = basis.marks;
     let count = pieces_of(judged);
     let mut text = io::large_buffer();

@@ -22,7 +22,7 @@ same-bit a b low low′ e = by (eqb b 1) refl
     by true t = let p = eqb-true a 1 (e ∙ t) in let q = eqb-true b 1 t in omega arith
     by false t = let p = eqb-false a 1 (e ∙ t) in let q = eqb-false b 1 t in omega arith
 
-one-marking : (A : List Label) (xs ys : List ℕ) → MarkedExactly A xs → MarkedExactly A ys → xs ≡ ys
+pub one-marking : (A : List Label) (xs ys : List ℕ) → MarkedExactly A xs → MarkedExactly A ys → xs ≡ ys
 unfolding isMarked
 one-marking A xs ys p q =
     let m = p .marked in

@@ -3,15 +3,20 @@ use Prim.Native.Nat.{ℕ, _≤_, _<_}
 use mathlib.Core.List.{List, map}
 use mathlib.Core.Path.{_≡_}
 use lib.ListN.{length, take}
-use Rattle.paper.specs.Limits.{mostChosen, mostRows, mostTransitions, mostVariables}
+use Rattle.paper.specs.Limits.{mostChosen, mostDepth, mostRows, mostTransitions, mostVariables}
 use Rattle.entries.specs.Front.{inFront}
 use Rattle.table.specs.declared.Layout.{Layout}
+use Rattle.table.specs.Table.{rowsIn}
+use Rattle.marks.specs.Inside.Chosen.{Marked, MarkedExactly}
+use Rattle.keys.specs.declared.Distinct.{Distinct}
+use Rattle.keys.specs.Inside.Keys.{keysAt}
 use Rattle.filling.specs.declared.Filled.{Filled}
 use Rattle.filling.specs.declared.Filled.the-variants as filled
 use Rattle.verdict.specs.declared.Accepted.{Accepted}
 use Rattle.verdict.specs.declared.Judged.the-variants as judged
-use Rattle.strategy.specs.Judge.{judgedOf}
+use Rattle.strategy.specs.Judge.{judgedOf, proposalIn}
 use Rattle.answers.specs.declared.Counts.{Counts}
+use Rattle.answers.specs.declared.numbered.Basis.{Basis}
 use Rattle.answers.specs.Requests.{reported, keyOf, keptMarks, assignedOf}
 
 -- the bounds of an accepted table's counts
@@ -41,11 +46,28 @@ pub record Ordered (words : List ℕ) (a : Accepted) (order : List ℕ) : Type 0
   pub accepted : AcceptedAs words a
   pub in-front : take (a .layout .chosen) order ≡ map (λ i. i .0) (reported words (a .layout))
 
--- transition k is there, and a byte for each of 4,096 labels
-pub record Asked (words : List ℕ) (a : Accepted) (k : ℕ) (kept : List ℕ) : Type 0 where
+-- What the transitions of words laid out so are worked out from: the marks of the chosen labels, and the keys of the formula. The marks
+-- that are made are 0 or 1.
+pub record Based (words : List ℕ) (l : Layout) (marks : List ℕ) (own : Distinct) : Type 0 where
+  pub marked : Marked (proposalIn words l) marks
+  pub own-are : own ≡ keysAt (rowsIn words l) marks mostDepth 0
+
+pub record BasedExactly (words : List ℕ) (l : Layout) (basis : Basis) : Type 0 where
+  pub marked : MarkedExactly (proposalIn words l) (basis .marks)
+  pub own-are : basis .own ≡ keysAt (rowsIn words l) (basis .marks) mostDepth 0
+
+-- transition k is there, with what it is worked out from, and a byte for each of 4,096 labels
+pub record Asked (words : List ℕ) (a : Accepted) (marks : List ℕ) (own : Distinct) (k : ℕ) (kept : List ℕ) : Type 0 where
   pub accepted : AcceptedAs words a
+  pub based : Based words (a .layout) marks own
   pub there : k < a .transitions
   pub room : length kept ≡ mostRows
+
+-- the bytes of transition k and its chosen labels in reported order stand in front of what was there, and how many these are
+pub record Assigned (words : List ℕ) (l : Layout) (k : ℕ) (kept kept′ labels labels′ : List ℕ) (chosen : ℕ) : Type 0 where
+  pub bytes : kept′ ≡ inFront (keptMarks words l k) kept
+  pub in-order : labels′ ≡ inFront (assignedOf words l k) labels
+  pub many : chosen ≡ length (assignedOf words l k)
 
 -- the bytes of transition k stand in front of what was there, and how many chosen labels it keeps
 pub record Kept (words : List ℕ) (l : Layout) (k : ℕ) (lent left : List ℕ) (chosen : ℕ) : Type 0 where

@@ -6,21 +6,17 @@ use mathlib.Core.List.{List, []}
 use mathlib.Core.Path.{_≡_}
 use lib.Dec.{ltb}
 use lib.ListN.{length, take, drop}
-use Rattle.paper.specs.Limits.{mostBytes, mostDepth, mostRows, mostTransitions, mostVariables, slots}
+use Rattle.paper.specs.Limits.{mostBytes, mostRows, mostTransitions, mostVariables, slots}
 use Rattle.table.specs.declared.Layout.{Layout}
-use Rattle.table.specs.Table.{rowsIn}
 use Rattle.keys.specs.declared.Distinct.{Distinct}
-use Rattle.marks.specs.Inside.Chosen.{Marked}
-use Rattle.keys.specs.Inside.Keys.{keysAt}
 use Rattle.verdict.specs.declared.Accepted.{Accepted}
 use Rattle.verdict.specs.declared.Judged.{Judged}
 use Rattle.verdict.specs.declared.Judged.the-variants as judged
-use Rattle.strategy.specs.Judge.{proposalIn}
 use Rattle.input.specs.Bytes.{wordsOf, judgedBytes}
-use Rattle.answers.specs.Inside.Judged.{AcceptedAs, Ordered}
+use Rattle.answers.specs.declared.numbered.Basis.{Basis}
+use Rattle.answers.specs.Inside.Judged.{AcceptedAs, Ordered, Based, BasedExactly}
 use Rattle.listing.specs.Inside.Placed.{Put}
 use Rattle.lister.specs.declared.Ran.{Ran}
-use Rattle.lister.specs.declared.basis.Basis.{Basis}
 use Rattle.lister.specs.declared.lines.Lines.{Lines}
 use Rattle.lister.specs.declared.output.Written.{Written}
 use Rattle.lister.specs.declared.parts.Part.{Part}
@@ -41,12 +37,10 @@ pub record Headed (a : Accepted) (order text : List ℕ) : Type 0 where
   pub order-there : a .layout .chosen ≤ length order
   pub room : length text ≡ mostBytes
 
--- accepted words, with what the line of every transition is worked out from: the marks of the chosen labels, the keys of the
--- formula and the reported order
+-- accepted words, with their reported order and what the line of every transition is worked out from
 pub record Listable (words : List ℕ) (a : Accepted) (marks : List ℕ) (own : Distinct) (order : List ℕ) : Type 0 where
   pub ordered : Ordered words a order
-  pub marked : Marked (proposalIn words (a .layout)) marks
-  pub own-are : own ≡ keysAt (rowsIn words (a .layout)) marks mostDepth 0
+  pub based : Based words (a .layout) marks own
 
 -- of accepted words it is so
 abbrev pub AcceptedIf : List ℕ → Judged → Type 0
@@ -55,10 +49,8 @@ AcceptedIf words j = (a : Accepted) → j ≡ judged.Accepted a → AcceptedAs w
 abbrev pub ListableIf : List ℕ → Judged → List ℕ → Distinct → List ℕ → Type 0
 ListableIf words j marks own order = (a : Accepted) → j ≡ judged.Accepted a → Listable words a marks own order
 
--- the marks and the keys of accepted words
-pub record Based (words : List ℕ) (j : Judged) (basis : Basis) : Type 0 where
-  pub marked : (a : Accepted) → j ≡ judged.Accepted a → Marked (proposalIn words (a .layout)) (basis .marks)
-  pub own-are : (a : Accepted) → j ≡ judged.Accepted a → basis .own ≡ keysAt (rowsIn words (a .layout)) (basis .marks) 64 0
+abbrev pub BasedIf : List ℕ → Judged → Basis → Type 0
+BasedIf words j basis = (a : Accepted) → j ≡ judged.Accepted a → BasedExactly words (a .layout) basis
 
 -- no transition's line is longer
 abbrev pub longest : Layout → ℕ

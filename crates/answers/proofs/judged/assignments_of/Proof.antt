@@ -1,97 +1,75 @@
--- 15 and 18 are refused as for the transition; else the chosen labels that it keeps are put in reported order and copied.
-use mathlib.Core.Path.{refl, sym}
+-- The checks in their order, and then the chosen labels that stand in reported order are copied.
+use native.Mathlib.Omega.{arith}
 use borrow.Author.Needs.{needs}
-use Rattle.answers.proofs.Answers.{whole, refused-alike, Whole, filled-whole}
-use Rattle.answers.proofs.Keeping.{marks-fit, front-there, front-length, fillable, assigned-there, assigned-front}
+use Rattle.answers.proofs.Accepted.{few-transitions}
+use Rattle.answers.proofs.Keeping.{assigned-as-key, assigned-there, assigned-front}
+use Rattle.answers.proofs.Answers.{absent, not-whole, whole}
 use Rattle.answers.proofs.judged.assignments_of.Statement.{statement}
 use Rattle.answers.proofs.judged.assignments_of.Tie as tie
 
--- once the transition is filled: the state on entry, and that the transition is there and whole
-module _ (c : tie.After-enum-told) where
-  abbrev asked : tie.After-transition-of
-  asked = c .before .before .before
-
-  abbrev entered : tie.Start
-  entered = asked .before .before .before .before .before
-
-  is-whole : Whole _ _ _ _ _ _ _ (asked .transition-of .ensures) (marks-fit _ _ (entered .pre .accepted) _) (c .enum-told .given .0 .0)
-  is-whole = filled-whole _ _ _ _ _ _ _ (asked .transition-of .ensures) (marks-fit _ _ (entered .pre .accepted) _) _ (c .enum-told .given .1)
-
-slice-aggregate-transition-of : tie.Need-slice-aggregate-transition-of
-slice-aggregate-transition-of c = search needs
-
-transition-of-requires : tie.Need-transition-of-requires
-transition-of-requires c κs = search needs
-
-enum-told : tie.Need-enum-told
-enum-told c = search needs
-
-enum-told-2 : tie.Need-enum-told-2
-enum-told-2 c = search needs
+refused-requires : tie.Need-refused-requires
+refused-requires c κs = few-transitions _ _ (c .before .before .before .before .before .pre .accepted)
 
 returns : tie.Need-returns
-returns c =
-    let t = c .before .before .before in
-    let e = t .before .before .before .before .before .pre .accepted in
-    refused-alike _ _ _ _ _ _ _ (t .transition-of .ensures) (marks-fit _ _ e _) _ (c .enum-told2 .given .1) _ _
+returns c = absent _ _ _ _ _ _ (c .before .if1 .taken) (c .refused .ensures)
 
-array-share-prefix-kept : tie.Need-array-share-prefix-kept
-array-share-prefix-kept c =
-    let t = c .before in
-    let p = entered t .pre in
-    let w = is-whole t in
-    front-there _ _ (p .accepted) _ (w .there) _ _ (w .bytes) .0
+basis-of-requires : tie.Need-basis-of-requires
+basis-of-requires c κs = search needs
 
-slice-aggregate-fill-assigned : tie.Need-slice-aggregate-fill-assigned
-slice-aggregate-fill-assigned c =
-    let t = c .before .before in
-    let p = entered t .pre in
-    let w = is-whole t in
-    front-length _ _ (p .accepted) _ (w .there) _ _ (w .bytes)
+slice-aggregate-put-assigned : tie.Need-slice-aggregate-put-assigned
+slice-aggregate-put-assigned c = search needs
 
-slice-aggregate-fill-assigned-2 : tie.Need-slice-aggregate-fill-assigned-2
-slice-aggregate-fill-assigned-2 c = search needs
+slice-aggregate-put-assigned-2 : tie.Need-slice-aggregate-put-assigned-2
+slice-aggregate-put-assigned-2 c = search needs
 
-fill-assigned-requires : tie.Need-fill-assigned-requires
-fill-assigned-requires c κs =
-    let t = c .before .before .before in
-    let p = entered t .pre in
-    let w = is-whole t in
-    fillable _ _ (p .accepted) _ (w .there) _ _ (w .bytes) _ p _ refl
+put-assigned-requires : tie.Need-put-assigned-requires
+put-assigned-requires c κs = search needs
+
+refused-requires-2 : tie.Need-refused-requires-2
+refused-requires-2 c κs =
+    let i = c .before .before .before .before .before .before .before .before .before .before in
+    let n = few-transitions _ _ (i .before .before .before .before .before .pre .accepted) in
+    omega (arith, i .if1 .left)
+
+returns-2 : tie.Need-returns-2
+returns-2 c =
+    let q = c .before .before .before .before .before in
+    let i = q .before .before .before .before .before .before in
+    let e = i .before .before .before .before .before .pre .accepted in
+    not-whole _ _ _ _ _ _ (i .if1 .left) _ (assigned-as-key _ _ e _ (i .if1 .left) (q .put-assigned .ensures)) (c .before .if2 .taken) (c .refused2 .ensures)
 
 fill-words-requires : tie.Need-fill-words-requires
 fill-words-requires c κs =
-    let a = c .before .before .before .fill-assigned .ensures in
-    let t = c .before .before .before .before .before .before .before in
-    let p = entered t .pre in
-    let w = is-whole t in
-    assigned-there _ _ (p .accepted) _ (w .there) _ _ (w .bytes) _ p _ _ _ (a .0) (a .1)
+    let q = c .before .before .before .before .before .before in
+    let i = q .before .before .before .before .before .before in
+    let e = i .before .before .before .before .before .pre .accepted in
+    assigned-there _ _ e _ (i .if1 .left) (q .put-assigned .ensures)
 
 same-length : tie.Need-same-length
 same-length c = search needs
 
-returns-2 : tie.Need-returns-2
-returns-2 c =
-    let a = c .before .before .before .before .before .before .fill-assigned .ensures in
-    let t = c .before .before .before .before .before .before .before .before .before .before in
-    let p = entered t .pre in
-    let w = is-whole t in
-    let assigned = assigned-front _ _ (p .accepted) _ (w .there) _ _ (w .bytes) _ p _ _ _ (a .0) (a .1) in
-    whole _ _ _ _ _ _ (w .there) _ (sym (w .has-all)) refl (rw assigned at (c .before .before .fill-words .ensures))
+returns-3 : tie.Need-returns-3
+returns-3 c =
+    let t = c .before .before .before .before .before in
+    let q = t .before .before .before .before in
+    let i = q .before .before .before .before .before .before in
+    let e = i .before .before .before .before .before .pre .accepted in
+    let front = assigned-front _ _ e _ (i .if1 .left) (q .put-assigned .ensures) in
+    whole _ _ _ _ _ _ (i .if1 .left) _ (assigned-as-key _ _ e _ (i .if1 .left) (q .put-assigned .ensures)) (t .if2 .left)
+    (rw front at (c .before .before .fill-words .ensures))
 
 pub assignments-of-spec : {M : Type 1} → statement M
 assignments-of-spec =
     tie.close
     (tie.spec
-    slice-aggregate-transition-of
-    transition-of-requires
-    enum-told
-    enum-told-2
+    refused-requires
     returns
-    array-share-prefix-kept
-    slice-aggregate-fill-assigned
-    slice-aggregate-fill-assigned-2
-    fill-assigned-requires
+    basis-of-requires
+    slice-aggregate-put-assigned
+    slice-aggregate-put-assigned-2
+    put-assigned-requires
+    refused-requires-2
+    returns-2
     fill-words-requires
     same-length
-    returns-2)
+    returns-3)

@@ -18,8 +18,8 @@ Inv-loop bytes words judged order basis marks count text₀ next₀ written₀ t
 abbrev μ-loop : tie.MeasureT-loop
 μ-loop bytes words judged order basis marks count text₀ next₀ written₀ text next written = count - next
 
-basis-of-requires : tie.Need-basis-of-requires Inv-loop μ-loop
-basis-of-requires c κs = are-accepted (c .before .before .before .pre)
+basis-if-accepted-requires : tie.Need-basis-if-accepted-requires Inv-loop μ-loop
+basis-if-accepted-requires c κs = are-accepted (c .before .before .before .pre)
 
 pieces-of-requires : tie.Need-pieces-of-requires Inv-loop μ-loop
 pieces-of-requires c κs = few-pieces (c .before .before .before .before .before .pre)
@@ -47,7 +47,7 @@ put-part-requires c κs =
     let l = c .before .before .before in
     let b = l .before .before .before .before .before in
     let s = b .before .before .before .before in
-    (listable-if (s .pre) (b .basis-of .ensures), below (c .before .before), l .loop .inv .room)
+    (listable-if (s .pre) (b .basis-if-accepted .ensures), below (c .before .before), l .loop .inv .room)
 
 array-share-prefix-text : tie.Need-array-share-prefix-text Inv-loop μ-loop
 array-share-prefix-text c =
@@ -110,7 +110,7 @@ write-listing-spec =
     (tie.spec
     Inv-loop
     μ-loop
-    basis-of-requires
+    basis-if-accepted-requires
     pieces-of-requires
     large-buffer-requires
     nothing-yet-requires
