@@ -18,7 +18,7 @@ EXCEPTIONS = {}
 SAID = "Rattle.paper.specs.Outcome"
 REFUSAL = {
     "Filled": "Rattle.filling.specs.Filling.IsRefusal",
-    "Judged": "Rattle.verdict.specs.Verdict.IsRefusal",
+    "Judged": "Rattle.strategy.specs.Verdict.IsRefusal",
     "u64": "Rattle.nocturenc.specs.Packed.IsPackedRefusal",
 }
 

@@ -18,9 +18,9 @@ use Rattle.table.specs.Table.{checked, chosenIn}
 use Rattle.written.specs.Tables.{formulaIn}
 use Rattle.written.specs.Inside.Understood.{Understood}
 use Rattle.written.proofs.Tables.{understood}
-use Rattle.verdict.specs.declared.Accepted.{Accepted}
-use Rattle.verdict.specs.declared.Judged.{Judged}
-use Rattle.verdict.specs.declared.Judged.the-variants as judged
+use Rattle.strategy.specs.declared.Accepted.{Accepted}
+use Rattle.strategy.specs.declared.Judged.{Judged}
+use Rattle.strategy.specs.declared.Judged.the-variants as judged
 use Rattle.strategy.specs.Judge.{judgedOf, proposalIn, leftBy, orderIn, orderLeft, JudgedInto, AcceptedSo}
 use Rattle.strategy.proofs.Exactly.{accepted-so}
 use Rattle.strategy.proofs.Held.{parts-of, chosen-rows}

@@ -10,9 +10,9 @@ use borrow.Author.Tests.{leb-false}
 use Rattle.paper.specs.Refusals.{refusal}
 use Rattle.paper.specs.declared.Label.{Label}
 use Rattle.table.specs.declared.Layout.{Layout}
-use Rattle.verdict.specs.declared.Accepted.{Accepted}
-use Rattle.verdict.specs.declared.Judged.{Judged}
-use Rattle.verdict.specs.declared.Judged.the-variants as judged
+use Rattle.strategy.specs.declared.Accepted.{Accepted}
+use Rattle.strategy.specs.declared.Judged.{Judged}
+use Rattle.strategy.specs.declared.Judged.the-variants as judged
 use Rattle.strategy.specs.Judge.{judgedOf}
 use Rattle.filling.specs.Filling.{Outcome, refuses, fills, unlessShort, filledOf}
 use Rattle.answers.specs.Requests.{reported, keyOf, keptMarks, assignedOf, unlessAbsent, orderOutcome, ofTransition}

@@ -33,7 +33,7 @@ use Rattle.keys.specs.declared.Distinct.{Distinct}
 use Rattle.marks.specs.Marks.{isMarked}
 use Rattle.marks.specs.Inside.Chosen.{MarkedExactly, AllBelow}
 use Rattle.keys.specs.Inside.Keys.{keysAt}
-use Rattle.verdict.specs.declared.Accepted.{Accepted}
+use Rattle.strategy.specs.declared.Accepted.{Accepted}
 use Rattle.strategy.specs.Judge.{proposalIn}
 use Rattle.strategy.proofs.Held.{parts-of, Reached, reached, walkable}
 use Rattle.transitions.specs.Inside.Kept.{Keepable, MarkedKept}
@@ -120,7 +120,7 @@ module _ (words : List ℕ) (a : Accepted) (e : AcceptedAs words a) where
         let s = is-strategy words a e in
         transition-says (l .variables) f A (u .well-formed) (s .homogeneous) (s .minimal) (u .within .chosen-ascend) k among
 
-    pub keepable : {marks out : List ℕ} {own : Distinct} → Based words l marks own → length out ≡ 4096 → Keepable lentRows marks out (l .rows) 0 64 own k true
+    pub keepable : {marks out : List ℕ} {own : Distinct} → Based words l marks own → length out ≡ 4096 → Keepable lentRows marks out (l .rows) 0 64 own k
     keepable {marks} {out} {own} b room =
         let s = is-strategy words a e in
         rw rows-lent

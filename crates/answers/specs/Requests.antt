@@ -14,8 +14,8 @@ use Rattle.paper.specs.Transition.{keyAt, isKept}
 use Rattle.table.specs.declared.Layout.{Layout}
 use Rattle.written.specs.Tables.{formulaIn}
 use Rattle.filling.specs.Filling.{Outcome, refuses, unlessShort}
-use Rattle.verdict.specs.declared.Judged.{Judged}
-use Rattle.verdict.specs.declared.Judged.the-variants as judged
+use Rattle.strategy.specs.declared.Judged.{Judged}
+use Rattle.strategy.specs.declared.Judged.the-variants as judged
 use Rattle.strategy.specs.Judge.{judgedOf, proposalIn}
 use Rattle.answers.specs.declared.Answer.{Answer}
 use Rattle.answers.specs.declared.Answer.the-variants as answer

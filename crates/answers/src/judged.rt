@@ -18,8 +18,8 @@ use paper::limits::MOST_ROWS;
 use paper::limits::SLOTS;
 use paper::refusals::NO_SUCH_TRANSITION;
 use paper::refusals::UNEVEN;
+use strategy::Accepted;
 use transitions::assigned::count_kept;
-use verdict::Accepted;
 
 // Puts the bytes of transition k in front; gives how many chosen labels it keeps.
 fn keep(words: &[u16], a: Accepted, k: usize, kept: &mut [u8]) -> usize

@@ -12,9 +12,9 @@ use marks::marks_of;
 use paper::Label;
 use paper::limits::MOST_DEPTH;
 use paper::limits::MOST_ROWS;
+use strategy::Accepted;
 use transitions::assigned::fill_assigned;
 use transitions::kept::mark_kept;
-use verdict::Accepted;
 
 // What every transition of a table is worked out from: the marks of the chosen labels, and the keys of the formula. A caller that asks
 // for many transitions works it out once.

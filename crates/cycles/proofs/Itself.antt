@@ -12,7 +12,7 @@ use Rattle.rows.specs.Rows.{fromOf}
 use Rattle.rows.specs.Inside.Tree.{guardOf}
 use Rattle.net.specs.Inside.Prior.{isFrozen, shareBranchIn, variableOf, prior}
 use Rattle.net.specs.Inside.Net.{guardsFrom}
-use Rattle.fingers.specs.Inside.Ready.{Ready}
+use Rattle.fingers.specs.Inside.Followable.{Followable}
 use Rattle.fingers.specs.Inside.Spots.{stopOf, readsAny, IsSpot, pending, After}
 use Rattle.fingers.proofs.Tests.{by, by-lt, never}
 use Rattle.fingers.proofs.Guards.{the-guard}
@@ -27,7 +27,7 @@ prior-itself rows reads chosen j =
     rw (eq-eqb l l refl) (and-true (isFrozen rows reads l (variableOf rows chosen j)))
 
 -- the star around a star: a spot, before all that it reads
-module _ (rows reads chosen net : List ℕ) (#N : ℕ) (ready : Ready rows reads chosen net #N) (s : ℕ)
+module _ (rows reads chosen net : List ℕ) (#N : ℕ) (ready : Followable rows reads chosen net #N) (s : ℕ)
     (P : IsSpot rows chosen #N s (fromOf rows s) (length chosen)) (h : 0 < s) where
   outer : After rows reads chosen #N s (stopOf rows s) (length chosen) (getD net (guardsFrom + s) 0) (fromOf rows (getD net (guardsFrom + s) 0)) (length chosen)
   outer = after-star rows reads chosen net #N ready s (stopOf rows s) (length chosen)
@@ -52,7 +52,7 @@ module _ (rows reads chosen : List ℕ) (j : ℕ) where
   pub below-none : (s : ℕ) → s ≤ 0 → below s ≡ false
   below-none s h = not-so _ (λ e. let z = some-star rows reads chosen s (fromOf rows s) (length chosen) j e in omega arith)
 
-  module _ (net : List ℕ) (#N : ℕ) (ready : Ready rows reads chosen net #N) (s : ℕ)
+  module _ (net : List ℕ) (#N : ℕ) (ready : Followable rows reads chosen net #N) (s : ℕ)
       (P : IsSpot rows chosen #N s (fromOf rows s) (length chosen)) (h : 0 < s) where
     pub below-read : readsAny reads (fromOf rows s) (stopOf rows s) (variableOf rows chosen j) ≡ true → below s ≡ true
     below-read e = joins rows reads chosen s (fromOf rows s) (length chosen) j h (readLater e)
@@ -78,7 +78,7 @@ module _ (rows reads chosen : List ℕ) (j : ℕ) where
         past (readAround a) = joins rows reads chosen s (stopOf rows s) (length chosen) j h (readAround a)
 
   -- the own star of j
-  module _ (net : List ℕ) (#N : ℕ) (ready : Ready rows reads chosen net #N) (hj : j < length chosen) where
+  module _ (net : List ℕ) (#N : ℕ) (ready : Followable rows reads chosen net #N) (hj : j < length chosen) where
     pub own-spot : IsSpot rows chosen #N (getD chosen j 0 + 1) (fromOf rows (getD chosen j 0 + 1)) (length chosen)
     own-spot = record {
       star = own-in rows reads chosen #N net ready j hj;

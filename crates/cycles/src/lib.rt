@@ -7,7 +7,7 @@ ghost use Prim.Native.Nat.{ℕ, _+_, _-_, _<_, _≤_};
 ghost use lib.ListN.{length, getD};
 ghost use Rattle.net.specs.Inside.Prior.{prior};
 ghost use Rattle.cycles.specs.Inside.Cyclic.{lowestOnCycle};
-ghost use Rattle.fingers.specs.Inside.Ready.{Ready};
+ghost use Rattle.fingers.specs.Inside.Followable.{Followable};
 ghost use Rattle.cycles.specs.Inside.Path.{Walked, Best, Finished, Settled, Counted, Merged, Stepped, Explored, Selfless};
 ghost use Rattle.fingers.specs.Inside.Spots.{readsAny, graphOf};
 ghost use Rattle.paper.specs.Limits.{slots};
@@ -97,7 +97,7 @@ fn step(
     finger: &mut [u64; SLOTS],
     mut w: Walk,
 ) -> Walk
-    requires { ⌜ Ready (now rows) (now reads) (now chosen) (now net) n × (0 < w .len)
+    requires { ⌜ Followable (now rows) (now reads) (now chosen) (now net) n × (0 < w .len)
         × Walked (graphOf (now rows) (now reads) (now chosen) n) (now mark) (now stack) (now bound) (now finger) (w .len) (w .top) (w .at)
         × Best (graphOf (now rows) (now reads) (now chosen) n) (now mark) (w .best) ⌝ }
     ensures { λ r. ⌜ Stepped (graphOf (now (rows .entry)) (now (reads .entry)) (now (chosen .entry)) n) (now (mark .entry)) (now (mark .exit))
@@ -150,7 +150,7 @@ fn explore(
     finger: &mut [u64; SLOTS],
     best: usize,
 ) -> usize
-    requires { ⌜ Ready (now rows) (now reads) (now chosen) (now net) n × (root < length (now chosen))
+    requires { ⌜ Followable (now rows) (now reads) (now chosen) (now net) n × (root < length (now chosen))
         × Walked (graphOf (now rows) (now reads) (now chosen) n) (now mark) (now stack) (now bound) (now finger) 0 0 0
         × Best (graphOf (now rows) (now reads) (now chosen) n) (now mark) best ⌝ }
     ensures { λ r. ⌜ Explored (graphOf (now (rows .entry)) (now (reads .entry)) (now (chosen .entry)) n) root (now (mark .entry))
@@ -198,7 +198,7 @@ fn is_before_itself(
     n: u16,
     j: usize,
 ) -> bool
-    requires { ⌜ Ready (now rows) (now reads) (now chosen) (now net) n × (j < length (now chosen)) ⌝ }
+    requires { ⌜ Followable (now rows) (now reads) (now chosen) (now net) n × (j < length (now chosen)) ⌝ }
     ensures { λ r. ⌜ r ≡ prior (now (rows .entry)) (now (reads .entry)) (now (chosen .entry)) j j ⌝ }
 {
     let v = Variable(arg_of(rows, Label(chosen[j])));
@@ -214,7 +214,7 @@ fn is_before_itself(
 
 // The lowest index that is before itself, or how many there are.
 fn first_self(rows: &[u16], reads: &[u16], chosen: &[u16], net: &[u16; NET_LENGTH], n: u16) -> usize
-    requires { ⌜ Ready (now rows) (now reads) (now chosen) (now net) n ⌝ }
+    requires { ⌜ Followable (now rows) (now reads) (now chosen) (now net) n ⌝ }
     ensures { λ r. ⌜ Selfless (graphOf (now (rows .entry)) (now (reads .entry)) (now (chosen .entry)) n) r ⌝ }
 {
     let mut j = 0;
@@ -235,7 +235,7 @@ pub fn lowest_on_cycle(
     net: &[u16; NET_LENGTH],
     n: u16,
 ) -> usize
-    requires { ⌜ Ready (now rows) (now reads) (now chosen) (now net) n ⌝ }
+    requires { ⌜ Followable (now rows) (now reads) (now chosen) (now net) n ⌝ }
     ensures { λ r. ⌜ r ≡ lowestOnCycle (now (rows .entry)) (now (reads .entry)) (now (chosen .entry)) ⌝ }
 {
     let mut mark = [0u16; SLOTS];

@@ -11,8 +11,8 @@ use lib.ListN.{length}
 use Rattle.paper.specs.declared.Refusal.{Refusal}
 use Rattle.paper.specs.Refusals.{refusal}
 use Rattle.table.specs.declared.Layout.{Layout}
-use Rattle.verdict.specs.declared.Judged.{Judged}
-use Rattle.verdict.specs.declared.Judged.the-variants as judged
+use Rattle.strategy.specs.declared.Judged.{Judged}
+use Rattle.strategy.specs.declared.Judged.the-variants as judged
 use Rattle.strategy.specs.Judge.{judgedOf}
 use Rattle.filling.specs.Filling.{Outcome, refuses, fills, unlessShort}
 use Rattle.answers.specs.Requests.{judgeOf, judgeAnswer, keyOf, keptMarks, assignedOf, reported, outcomeOf, ofTransition, orderOutcome}

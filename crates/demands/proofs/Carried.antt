@@ -26,8 +26,8 @@ use Rattle.written.specs.Written.{Table}
 use Rattle.written.specs.Tables.{tableIn}
 use Rattle.written.specs.Inside.Understood.{Understood}
 use Rattle.written.proofs.Words.{map-back}
-use Rattle.verdict.specs.declared.Accepted.{Accepted}
-use Rattle.verdict.specs.declared.Judged.the-variants as judged
+use Rattle.strategy.specs.declared.Accepted.{Accepted}
+use Rattle.strategy.specs.declared.Judged.the-variants as judged
 use Rattle.strategy.specs.Judge.{judgedOf}
 use Rattle.transitions.proofs.Words.{those-same}
 use Rattle.answers.specs.Requests.{judgeOf, orderOf, assignedOf, assignmentsOf}

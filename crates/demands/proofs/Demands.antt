@@ -5,8 +5,8 @@ use mathlib.Core.Path.{_≡_, subst}
 use mathlib.Core.List.{List}
 use Rattle.written.specs.Written.{Table}
 use Rattle.written.specs.Tables.{tableIn}
-use Rattle.verdict.specs.declared.Accepted as Verdict
-use Rattle.verdict.specs.declared.Judged.the-variants as judged
+use Rattle.strategy.specs.declared.Accepted as Verdict
+use Rattle.strategy.specs.declared.Judged.the-variants as judged
 use Rattle.strategy.specs.Judge.{judgedOf}
 use Rattle.answers.specs.Requests.{judgeOf}
 use Rattle.nocturenc.specs.Packed.{AnswerPacked}

@@ -8,8 +8,8 @@ use borrow.Author.Tests.{le-ltb, lt-ltb, le-leb, lt-leb, eq-eqb}
 use Rattle.paper.specs.Refusals.{refusal}
 use Rattle.paper.specs.declared.Label.{Label}
 use Rattle.table.specs.declared.Layout.{Layout}
-use Rattle.verdict.specs.declared.Accepted.{Accepted}
-use Rattle.verdict.specs.declared.Judged.the-variants as judged
+use Rattle.strategy.specs.declared.Accepted.{Accepted}
+use Rattle.strategy.specs.declared.Judged.the-variants as judged
 use Rattle.strategy.specs.Judge.{judgedOf}
 use Rattle.filling.specs.Filling.{Outcome, refuses, fills, unlessShort}
 use Rattle.answers.specs.Requests.{keyOf, reported, unlessAbsent, outcomeOf, ofTransition, orderOf, orderOutcome}

@@ -15,9 +15,9 @@ use Rattle.table.specs.Table.{chosenIn}
 use Rattle.written.specs.Written.{Table, Within, written}
 use Rattle.written.specs.Tables.{tableIn, layoutOf}
 use Rattle.written.proofs.Tables.{one-table}
-use Rattle.verdict.specs.declared.Accepted.{Accepted}
-use Rattle.verdict.specs.declared.Judged.{Judged}
-use Rattle.verdict.specs.declared.Judged.the-variants as judged
+use Rattle.strategy.specs.declared.Accepted.{Accepted}
+use Rattle.strategy.specs.declared.Judged.{Judged}
+use Rattle.strategy.specs.declared.Judged.the-variants as judged
 use Rattle.strategy.specs.Judge.{judgedOf, AcceptedSo}
 use Rattle.strategy.proofs.Exactly.{accepted-so, accepted-exactly}
 use Rattle.answers.specs.Requests.{judgeOf, judgeAnswer}

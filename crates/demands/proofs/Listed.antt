@@ -21,8 +21,8 @@ use Rattle.written.specs.Written.{Table}
 use Rattle.written.specs.Tables.{tableIn}
 use Rattle.written.specs.Inside.Understood.{Understood}
 use Rattle.net.proofs.Spans.{labels-between}
-use Rattle.verdict.specs.declared.Accepted.{Accepted}
-use Rattle.verdict.specs.declared.Judged.the-variants as judged
+use Rattle.strategy.specs.declared.Accepted.{Accepted}
+use Rattle.strategy.specs.declared.Judged.the-variants as judged
 use Rattle.marks.specs.Marks.{isMarked}
 use Rattle.strategy.specs.Judge.{judgedOf}
 use Rattle.transitions.proofs.MarkedBytes.{bytes-at}

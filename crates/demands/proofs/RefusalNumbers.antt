@@ -23,9 +23,9 @@ use Rattle.sections.specs.Sections.{halt, andThen, start, openAt, variablesAt, 
 use Rattle.table.specs.declared.Layout.{Layout}
 use Rattle.table.specs.Table.{partAt, readsOf, sections, layout, asChecked, checked}
 use Rattle.written.specs.Tables.{formulaIn}
-use Rattle.verdict.specs.declared.Judged.{Judged}
-use Rattle.verdict.specs.declared.Judged.the-variants as judged
-use Rattle.verdict.specs.Verdict.{asJudged}
+use Rattle.strategy.specs.declared.Judged.{Judged}
+use Rattle.strategy.specs.declared.Judged.the-variants as judged
+use Rattle.strategy.specs.Verdict.{asJudged}
 use Rattle.strategy.specs.Judge.{proposalIn, judgedOf, judgedAs}
 use Rattle.demands.specs.Demands.{JudgeGives}
 

@@ -8,13 +8,13 @@ use mathlib.Core.List.{List}
 use lib.ListN.{length}
 use borrow.Author.Tests.{eq-eqb, ne-eqb}
 use Rattle.fingers.specs.declared.Moved.{Moved}
-use Rattle.fingers.specs.Inside.Ready.{Ready}
+use Rattle.fingers.specs.Inside.Followable.{Followable}
 use Rattle.fingers.specs.Inside.Spots.{stopOf, packed, ahead, calls, spotAfter, soughtWithin, soughtFrom, IsSpot, After}
 use Rattle.fingers.proofs.Tests.{by, by-eq, by-lt}
 use Rattle.fingers.proofs.GoesOn.{ahead-is, after-index, after-read, after-star}
 
 module _ (rows reads chosen : List ℕ) where
-  module _ (net : List ℕ) (#N : ℕ) (ready : Ready rows reads chosen net #N) (s r k : ℕ) where
+  module _ (net : List ℕ) (#N : ℕ) (ready : Followable rows reads chosen net #N) (s r k : ℕ) where
     abbrev AfterIt : ℕ × ℕ × ℕ → Type 0
     AfterIt p = After rows reads chosen #N s r k (p .0) (p .1) (p .2)
 
@@ -67,7 +67,7 @@ module _ (rows reads chosen : List ℕ) where
     unfolding soughtFrom
     found-here s r k h e = within-here s r k h (ahead rows chosen s r k) (some-ahead s r k h) e
 
-    module _ (net : List ℕ) (#N : ℕ) (ready : Ready rows reads chosen net #N) where
+    module _ (net : List ℕ) (#N : ℕ) (ready : Followable rows reads chosen net #N) where
       pub enough : (m n s r k : ℕ) → IsSpot rows chosen #N s r k → ahead rows chosen s r k ≤ m → ahead rows chosen s r k ≤ n
           → within m (s, r, k) ≡ within n (s, r, k)
       enough zero n s r k P a b =

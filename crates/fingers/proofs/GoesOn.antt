@@ -18,7 +18,7 @@ use Rattle.entries.proofs.First.{first-le, first-at, first-below}
 use Rattle.rows.specs.Inside.Tree.{guardOf}
 use Rattle.net.specs.Inside.Prior.{starReads, around, variableOf}
 use Rattle.net.specs.Inside.Net.{firstWith, guardsFrom, nextsFrom, firstsFrom}
-use Rattle.fingers.specs.Inside.Ready.{Ready}
+use Rattle.fingers.specs.Inside.Followable.{Followable}
 use Rattle.fingers.specs.Inside.Spots.{stopOf, readsAny, packed, pending, ahead, spotAfter, IsSpot, After}
 use Rattle.fingers.proofs.Tests.{by-eq, by-lt, never}
 use Rattle.fingers.proofs.Guards.{Innermost, no-guard, the-guard}
@@ -127,7 +127,7 @@ module _ (rows reads chosen : List ℕ) where
       out (readLater a) = or-left (starReads rows reads s (variableOf rows chosen i)) _ (star-reads rows reads s (variableOf rows chosen i) ∙ a)
       out (readAround a) = or-right (starReads rows reads s (variableOf rows chosen i)) _ a
 
-  module _ (net : List ℕ) (#N : ℕ) (ready : Ready rows reads chosen net #N) (s r k : ℕ) (P : IsSpot rows chosen #N s r k) (h : 0 < s) where
+  module _ (net : List ℕ) (#N : ℕ) (ready : Followable rows reads chosen net #N) (s r k : ℕ) (P : IsSpot rows chosen #N s r k) (h : 0 < s) where
     -- the reads of a star are there
     pub stop-in : stopOf rows s ≤ length reads
     stop-in = ready .read s (P .star) (P .kind h)

@@ -12,7 +12,7 @@ use Rattle.paper.specs.Limits.{slots}
 use Rattle.paper.proofs.Bools.{both, and-left, and-right, not-so}
 use Rattle.rows.specs.Rows.{kindOf, fromOf}
 use Rattle.net.specs.Inside.Prior.{isFrozen, variableOf, prior}
-use Rattle.fingers.specs.Inside.Ready.{Ready}
+use Rattle.fingers.specs.Inside.Followable.{Followable}
 use Rattle.fingers.specs.Inside.Graph.{Graph, Next, free, outside, Started}
 use Rattle.fingers.specs.Inside.Spots.{packed, calls, startOf, AtStart, pending, After, SpotOf, Sought, passedOf, fingerOf, graphOf, Answered}
 use Rattle.fingers.proofs.Tests.{by, by-eq, never, at-set}
@@ -53,7 +53,7 @@ module _ (rows reads chosen : List ℕ) (#N : ℕ) where
         not-so _ (λ p. never _ (both (ltb k (length chosen)) _ (lt-ltb k (length chosen) h)
         (both (o k) _ q (and-right (isFrozen rows reads (getD chosen j 0) (variableOf rows chosen k)) _ p))) e)
 
-    pub sought-more : (net : List ℕ) → Ready rows reads chosen net #N → (s r k s′ r′ k′ : ℕ) → 0 < s
+    pub sought-more : (net : List ℕ) → Followable rows reads chosen net #N → (s r k s′ r′ k′ : ℕ) → 0 < s
         → Sought rows reads chosen #N o j s₀ r₀ k₀ s r k → calls rows chosen o k j ≡ false → After rows reads chosen #N s r k s′ r′ k′
         → Sought rows reads chosen #N o j s₀ r₀ k₀ s′ r′ k′
     sought-more net ready s r k s′ r′ k′ h x e a = record {
@@ -135,7 +135,7 @@ module _ (rows reads chosen : List ℕ) (#N : ℕ) where
     }
 
   -- the finger before all that the own star of j reads
-  module _ (net : List ℕ) (ready : Ready rows reads chosen net #N) (j : ℕ) (hj : j < length chosen) where
+  module _ (net : List ℕ) (ready : Followable rows reads chosen net #N) (j : ℕ) (hj : j < length chosen) where
     abbrev own : ℕ
     own = getD chosen j 0 + 1
 
@@ -177,7 +177,7 @@ module _ (rows reads chosen : List ℕ) (#N : ℕ) where
         let none : pending rows reads chosen own (fromOf rows own) (length chosen) i ≡ false = rw (s .0, s .1, s .2) at gone in
         not-so _ (λ p. never _ (and-left (isFrozen rows reads (getD chosen j 0) (variableOf rows chosen i)) _ p) (sym (all-frozen i) ∙ none))
 
-  pub started : (net old finger : List ℕ) → Ready rows reads chosen net #N → AtStart rows chosen (length chosen) old finger
+  pub started : (net old finger : List ℕ) → Followable rows reads chosen net #N → AtStart rows chosen (length chosen) old finger
       → Started (graphOf rows reads chosen #N) finger
   started net old finger ready a = record {
     size = a .size;

@@ -1,3 +1,3 @@
-pub mod Ready
+pub mod Followable
 pub mod Graph
 pub mod Spots

@@ -6,7 +6,7 @@ ghost use Prim.Native.Nat.{_+_, _*_, _/_, _%_, _<_, _≤_};
 ghost use lib.ListN.{length, getD};
 ghost use Rattle.net.specs.Inside.Prior.{shareBranchIn};
 ghost use Rattle.net.specs.Inside.Net.{Chosen, Net};
-ghost use Rattle.fingers.specs.Inside.Ready.{Ready};
+ghost use Rattle.fingers.specs.Inside.Followable.{Followable};
 ghost use Rattle.fingers.specs.Inside.Graph.{outside};
 ghost use Rattle.fingers.specs.Inside.Spots.{stopOf, packed, calls, AtStart, Apart, Looked, Seekable, IsSpot, After, Answered, graphOf};
 ghost use Rattle.paper.specs.Limits.{mostRows, slots};
@@ -60,7 +60,7 @@ fn onward(
     n: u16,
     p: Spot,
 ) -> Spot
-    requires { ⌜ Ready (now rows) (now reads) (now chosen) (now net) n × IsSpot (now rows) (now chosen) n (p .star .0) (p .read) (p .next)
+    requires { ⌜ Followable (now rows) (now reads) (now chosen) (now net) n × IsSpot (now rows) (now chosen) n (p .star .0) (p .read) (p .next)
         × (0 < p .star .0) ⌝ }
     ensures { λ q. ⌜ After (now (rows .entry)) (now (reads .entry)) (now (chosen .entry)) n (p .star .0) (p .read) (p .next) (q .star .0)
         (q .read) (q .next) ⌝ }
@@ -203,7 +203,7 @@ pub fn seek(
     j: usize,
     finger: u64,
 ) -> Moved
-    requires { ⌜ Ready (now rows) (now reads) (now chosen) (now net) n × Seekable (graphOf (now rows) (now reads) (now chosen) n) b j finger ⌝ }
+    requires { ⌜ Followable (now rows) (now reads) (now chosen) (now net) n × Seekable (graphOf (now rows) (now reads) (now chosen) n) b j finger ⌝ }
     ensures { λ r. ⌜ Answered (now (rows .entry)) (now (reads .entry)) (now (chosen .entry)) n (outside (now (mark .entry)) b) j finger r ⌝ }
 {
     let mut p = spot_of(finger);

@@ -2,7 +2,7 @@
 use mathlib.Core.Path.{_≡_, refl}
 use mathlib.Core.List.{[], _∷_}
 use Rattle.written.specs.Example.{wordsOfP}
-use Rattle.verdict.specs.Verdict.{refusedAt}
+use Rattle.strategy.specs.Verdict.{refusedAt}
 use Rattle.input.specs.Bytes.{wordsOf, judgedBytes}
 use Rattle.input.specs.Example.{bytesOfP}
 

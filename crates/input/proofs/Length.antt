@@ -9,9 +9,9 @@ use lib.ListN.{length, length-append}
 use borrow.Author.Tests.{eqb-false}
 use Rattle.paper.specs.declared.Refusal.{Refusal}
 use Rattle.written.proofs.Tables.{understood}
-use Rattle.verdict.specs.declared.Judged.{Judged}
-use Rattle.verdict.specs.declared.Judged.the-variants as judged
-use Rattle.verdict.specs.Verdict.{refusedAt}
+use Rattle.strategy.specs.declared.Judged.{Judged}
+use Rattle.strategy.specs.declared.Judged.the-variants as judged
+use Rattle.strategy.specs.Verdict.{refusedAt}
 use Rattle.strategy.specs.Judge.{judgedOf}
 use Rattle.strategy.proofs.Exactly.{accepted-so}
 use Rattle.input.specs.Bytes.{wordsOf, areOdd, judgedBytes}

@@ -2,7 +2,7 @@
 -- is left as it was.
 use denote.Ref.{now}
 use Rattle.paper.specs.Outcome.{RefusalLeaves}
-use Rattle.verdict.specs.Verdict.{IsRefusal}
+use Rattle.strategy.specs.Verdict.{IsRefusal}
 use Rattle.strategy.specs.Judge.{orderIn}
 use Rattle.strategy.proofs.RefusalLeaves.{as-it-was}
 use Rattle.input.specs.Bytes.{wordsOf, orderLeftOf}

@@ -7,8 +7,8 @@ use mathlib.Core.Path.{_≡_}
 use lib.Dec.{eqb}
 use lib.ListN.{length}
 use Rattle.paper.specs.Refusals.{oddBytes}
-use Rattle.verdict.specs.declared.Judged.{Judged}
-use Rattle.verdict.specs.Verdict.{refusedAt}
+use Rattle.strategy.specs.declared.Judged.{Judged}
+use Rattle.strategy.specs.Verdict.{refusedAt}
 use Rattle.strategy.specs.Judge.{leftBy, orderIn, judgedOf}
 
 -- the words of bytes, low byte first; a byte left over makes none

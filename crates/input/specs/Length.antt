@@ -9,7 +9,7 @@ use Rattle.paper.specs.Limits.{mostBytes, mostWords}
 use Rattle.table.specs.declared.Layout.{Layout}
 use Rattle.table.specs.declared.Checked.the-variants.{Sound}
 use Rattle.table.specs.Table.{checked}
-use Rattle.verdict.specs.declared.Judged.the-variants as judged
+use Rattle.strategy.specs.declared.Judged.the-variants as judged
 use Rattle.input.specs.Bytes.{judgedBytes}
 
 -- sound words are no more

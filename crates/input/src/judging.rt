@@ -7,8 +7,8 @@ ghost use Rattle.paper.specs.Limits.{mostBytes, slots};
 use paper::limits::SLOTS;
 use paper::refusals::ODD_BYTES;
 use paper::refusals::refusal_at;
+use strategy::Judged;
 use strategy::judge_into;
-use verdict::Judged;
 
 // The answer to any bytes, at most 65,536, whose words these are. Of accepted ones the reported order stands in front of `order`; a
 // refusal leaves it as it was.

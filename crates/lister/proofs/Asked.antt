@@ -9,10 +9,10 @@ use lib.ListN.{length, take, length-map, length-take}
 use lib.Seq.{length-take-le}
 use Rattle.paper.specs.declared.Refusal.{Refusal}
 use Rattle.entries.specs.Front.{inFront}
-use Rattle.verdict.specs.declared.Accepted.{Accepted}
-use Rattle.verdict.specs.declared.Judged.{Judged}
-use Rattle.verdict.specs.declared.Judged.the-variants as judged
-use Rattle.verdict.specs.Verdict.{refusedAt}
+use Rattle.strategy.specs.declared.Accepted.{Accepted}
+use Rattle.strategy.specs.declared.Judged.{Judged}
+use Rattle.strategy.specs.declared.Judged.the-variants as judged
+use Rattle.strategy.specs.Verdict.{refusedAt}
 use Rattle.strategy.specs.Judge.{leftBy, orderIn, judgedOf}
 use Rattle.input.specs.Bytes.{wordsOf, areOdd, judgedBytes, orderLeftOf, JudgedBytes}
 use Rattle.answers.specs.Requests.{reported}

@@ -18,7 +18,7 @@ use Rattle.table.specs.declared.Layout.{Layout}
 use Rattle.written.specs.Tables.{formulaIn}
 use Rattle.written.specs.Written.{labelsOn}
 use Rattle.keys.specs.declared.Distinct.{Distinct}
-use Rattle.verdict.specs.declared.Accepted.{Accepted}
+use Rattle.strategy.specs.declared.Accepted.{Accepted}
 use Rattle.strategy.specs.Judge.{proposalIn}
 use Rattle.answers.specs.Requests.{keyOf}
 use Rattle.answers.specs.Inside.Judged.{AcceptedAs, Assigned}

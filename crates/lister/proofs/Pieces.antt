@@ -8,8 +8,8 @@ use mathlib.Core.Path.{_≡_, refl, sym, ap, _∙_}
 use mathlib.Core.List.{List, [], _++_, append-assoc, append-nil}
 use lib.ListN.{length, take, drop, length-append}
 use lib.Seq.{take-at, drop-at}
-use Rattle.verdict.specs.declared.Judged.{Judged}
-use Rattle.verdict.specs.declared.Judged.the-variants as judged
+use Rattle.strategy.specs.declared.Judged.{Judged}
+use Rattle.strategy.specs.declared.Judged.the-variants as judged
 use Rattle.listing.specs.Inside.Placed.{placed, Put}
 use Rattle.lister.specs.Listing.{linesFrom, firstOf, transitionsOf, linesBelow, pieces, piecesBelow}
 use Rattle.lister.specs.Inside.Steps.{manyPieces, partOf}

@@ -5,9 +5,9 @@ use mathlib.Core.List.{List, [], _++_, map}
 use Rattle.paper.specs.Transition.{keptLabels}
 use Rattle.table.specs.declared.Layout.{Layout}
 use Rattle.written.specs.Tables.{formulaIn}
-use Rattle.verdict.specs.declared.Accepted.{Accepted}
-use Rattle.verdict.specs.declared.Judged.{Judged}
-use Rattle.verdict.specs.declared.Judged.the-variants as judged
+use Rattle.strategy.specs.declared.Accepted.{Accepted}
+use Rattle.strategy.specs.declared.Judged.{Judged}
+use Rattle.strategy.specs.declared.Judged.the-variants as judged
 use Rattle.strategy.specs.Judge.{proposalIn}
 use Rattle.input.specs.Bytes.{wordsOf, judgedBytes}
 use Rattle.answers.specs.Requests.{reported, keyOf, assignedOf}

@@ -4,7 +4,7 @@ use answers::numbered::Basis;
 use answers::numbered::basis_of;
 use keys::Distinct;
 use paper::limits::MOST_ROWS;
-use verdict::Judged;
+use strategy::Judged;
 
 // The basis of words that are judged so; of refused ones there are no lines, and no label is marked.
 pub fn basis_if_accepted(words: &[u16], judged: Judged) -> Basis

@@ -12,7 +12,7 @@ use listing::put_order;
 use listing::put_transition;
 use paper::limits::MOST_ROWS;
 use paper::limits::SLOTS;
-use verdict::Accepted;
+use strategy::Accepted;
 
 // How many lines were put, and how many bytes they are.
 pub struct Lines {

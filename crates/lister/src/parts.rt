@@ -11,8 +11,8 @@ use crate::lines::put_lines;
 use keys::Distinct;
 use listing::put_refused;
 use paper::limits::MOST_ROWS;
-use verdict::Accepted;
-use verdict::Judged;
+use strategy::Accepted;
+use strategy::Judged;
 
 // The number of the piece that comes next, and how many bytes were put.
 pub struct Part {

@@ -8,7 +8,7 @@ use crate::output::nothing_yet;
 use crate::output::write_next;
 use crate::parts::pieces_of;
 use crate::parts::put_part;
-use verdict::Judged;
+use strategy::Judged;
 
 // Writes the listing of the bytes, whose words these are and which are judged so, with the order that is reported: all of it, in order,
 // each part once, for as long as the writing call takes what it is given.

@@ -5,6 +5,7 @@ pub mod Chains
 pub mod Clear
 pub mod Sound
 pub mod Spans
+pub mod OnBranches
 pub mod Sharing
 pub mod Freezing
 pub mod PriorIsBefore

@@ -7,36 +7,27 @@ use native.Mathlib.Omega.{arith}
 use mathlib.Core.Path.{_≡_, refl, sym, ap, _∙_}
 use mathlib.Core.Bool.{Bool, true, false, cond, _&&_, _||_, and-true, and-false, or-true, or-false}
 use mathlib.Core.Logic.{_⊎_, inl, inr}
-use mathlib.Core.List.{List, [], _∷_, _++_, List·Memᴰ, List·Memᴰ·head, List·Memᴰ·tail, Sublistᴰ}
+use mathlib.Core.List.{List, [], _∷_, _++_, List·Memᴰ, List·Memᴰ·head, List·Memᴰ·tail}
 use lib.ListN.{length, length-append}
 use lib.Dec.{eqb}
-use borrow.Author.Tests.{eqb-true, eqb-false, eq-eqb, lt-ltb, le-ltb, le-leb, lt-leb}
+use borrow.Author.Tests.{eqb-true, eqb-false, lt-ltb, le-ltb, le-leb, lt-leb}
 use Rattle.paper.specs.declared.Label.{Label}
-use Rattle.paper.specs.Lists.{anyOf}
 use Rattle.paper.specs.Formula.{ℓ, has, labels, labelsOf, Star, Formula, Formulas, FALSE, test, candidate, conjunction, disjunction, exists, IF, only, _⨾_}
-use Rattle.paper.specs.Branch.{branches, ofEach, ofAny}
+use Rattle.paper.specs.Branch.{branches}
 use Rattle.paper.specs.Before.{shareBranch}
 use Rattle.paper.specs.Structure.Share.{holdsAll, someBranchHolds, eachHolds, anyHolds}
-use Rattle.paper.proofs.Bools.{both, and-left, not-so, pick}
-use Rattle.paper.proofs.Lists.{to-any, of-any, of-all}
-use Rattle.paper.proofs.Labels.{sub-has, branch-sub, each-sub, any-sub}
+use Rattle.paper.proofs.Bools.{both, and-left, pick}
+use Rattle.paper.proofs.Lists.{to-any, of-any}
 use Rattle.paper.proofs.Share.{some-holds, sharing-says}
-use Rattle.paper.proofs.Numbers.{a-branch}
 use Rattle.rows.specs.Rows.{kindOf, endOf}
-use Rattle.written.specs.Written.{size, labelsOn}
+use Rattle.written.specs.Written.{size}
 use Rattle.rows.proofs.Meets.{lt-or-le}
 use Rattle.written.proofs.Writes.{RowIs, StarIs, Writes, WritesAll}
 use Rattle.rows.specs.Inside.Tree.{isUnder}
 use Rattle.net.specs.Inside.Prior.{overBoth, shareBranchIn}
 use Rattle.paper.proofs.UpTo.{last-is}
-use Rattle.net.proofs.Spans.{labels-between, labels-count, labels-count-all, ends-inside, Among, past-row, past-star, no-candidate, own-row, either-part}
-
--- every formula has a branch, which holds all of no labels
-some-nothing : (f : Formula) → someBranchHolds f [] ≡ true
-some-nothing f = some-holds f [] ∙ to-any (λ b. holdsAll b []) (a-branch f .1) refl
-
-each-nothing : (fs : Formulas) → eachHolds fs [] ≡ true
-each-nothing fs = some-nothing (conjunction (ℓ 0) fs)
+use Rattle.net.proofs.Spans.{ends-inside, Among, past-row, past-star, no-candidate, own-row, either-part}
+use Rattle.net.proofs.OnBranches.{some-nothing, each-nothing, some-lacks, each-lacks, any-lacks, candidate-held, candidates-held}
 
 -- two rows, i and j, and those over both
 module _ (rows : List ℕ) (i j : ℕ) where
@@ -103,55 +94,7 @@ module _ (rows : List ℕ) (i j : ℕ) where
         of-any-kind true = refl
         of-any-kind false = refl
 
--- no branch holds a label that is none of the formula's
-lacking : (bs : List (List Label)) (ls S : List Label) (x i : ℕ) → ((b : List Label) → List·Memᴰ b bs → Sublistᴰ b ls) → ls ≡ labelsOn i (length ls)
-    → (i ≤ x → x < i + length ls → ⊥) → List·Memᴰ (ℓ x) S → anyOf (λ b. holdsAll b S) bs ≡ false
-lacking bs ls S x i part count outside m = not-so _ λ h.
-    let (b, t, k) = of-any (λ b. holdsAll b S) bs h in
-    let (c, d) = labels-between i (length ls) (ℓ x) (rw count at (sub-has (ℓ x) (part b t) (of-all (has b) k m))) in
-    outside c d
-
 module _ (rows reads : List ℕ) where
-  module _ (S : List Label) (x : ℕ) (m : List·Memᴰ (ℓ x) S) where
-    some-lacks : (f : Formula) (i t : ℕ) → Writes rows reads f i t → i + size f ≤ x → someBranchHolds f S ≡ false
-    some-lacks f i t w h = some-holds f S ∙ lacking (branches f) (labels f) S x i (branch-sub f) (labels-count rows reads f i t w) (λ c d. omega arith) m
-
-    each-lacks : (fs : Formulas) (i t : ℕ) → WritesAll rows reads fs i t → x < i → eachHolds fs S ≡ false
-    each-lacks fs i t w h =
-        some-holds (conjunction (ℓ 0) fs) S
-        ∙ lacking (ofEach fs) (labelsOf fs) S x i (each-sub fs) (labels-count-all rows reads fs i t w) (λ c d. omega arith) m
-
-    any-lacks : (fs : Formulas) (i t : ℕ) → WritesAll rows reads fs i t → x < i → anyHolds fs S ≡ false
-    any-lacks fs i t w h =
-        some-holds (disjunction (ℓ 0) fs) S
-        ∙ lacking (ofAny fs) (labelsOf fs) S x i (any-sub fs) (labels-count-all rows reads fs i t w) (λ c d. omega arith) m
-
-  -- a candidate is on some branch
-  abbrev Held : ℕ → Formulas → Type 0
-  Held x fs = (eachHolds fs (ℓ x ∷ []) ≡ true) × (anyHolds fs (ℓ x ∷ []) ≡ true)
-
-  either-held : {x i : ℕ} (f : Formula) (fs : Formulas) → Among rows x i (length (labels f ++ labelsOf fs))
-      → (Among rows x i (size f) → someBranchHolds f (ℓ x ∷ []) ≡ true) → (Among rows x (i + size f) (length (labelsOf fs)) → Held x fs) → Held x (f ⨾ fs)
-  either-held f fs c first rest =
-      pick (either-part (labels f) (labelsOf fs) c) (λ d. let e = first d in (simp (e, each-nothing fs), simp e))
-      (λ d. let (e, o) = rest d in (simp (some-nothing f, e, or-true), simp (o, or-true)))
-
-  mutual
-    candidate-held : (f : Formula) {x : ℕ} (i t : ℕ) → Writes rows reads f i t → Among rows x i (size f) → someBranchHolds f (ℓ x ∷ []) ≡ true
-    candidate-held (FALSE l) i t w c = absurd (no-candidate (w .1) refl c)
-    candidate-held (test s) i t w c = absurd (no-candidate (w .row-is) refl c)
-    candidate-held (candidate l v s) i t w c = rw (own-row (w .2) c, w .0) (simp (eq-eqb i i refl))
-    candidate-held (conjunction l fs) i t w c = candidates-held fs (i + 1) t (w .2) (past-row (w .1) refl c) .0
-    candidate-held (disjunction l fs) i t w c = candidates-held fs (i + 1) t (w .2) (past-row (w .1) refl c) .1
-    candidate-held (exists l s f) i t w c = candidate-held f (i + 2) _ (w .3) (past-star (w .1) (w .2) refl c)
-    candidate-held (IF l s f g) i t w c =
-        either-held f (only g) (past-star (w .1) (w .2) refl c) (λ d. candidate-held f (i + 2) _ (w .3) d)
-        (λ d. let h = candidate-held g (i + 2 + size f) _ (w .4) d in (h, h)) .1
-
-    candidates-held : (fs : Formulas) {x : ℕ} (i t : ℕ) → WritesAll rows reads fs i t → Among rows x i (length (labelsOf fs)) → Held x fs
-    candidates-held (only f) i t w c = let h = candidate-held f i t w c in (h, h)
-    candidates-held (f ⨾ fs) i t w c = either-held f fs c (λ d. candidate-held f i t (w .0) d) (λ d. candidates-held fs (i + size f) _ (w .1) d)
-
   -- the labels of two candidates
   module _ (i j : ℕ) where
     abbrev Two : List Label
@@ -173,13 +116,13 @@ module _ (rows reads : List ℕ) where
 
       -- no branch of the first holds a label of the rest, nor the other way round
       first-lacks : (S : List Label) {x : ℕ} → List·Memᴰ (ℓ x) S → InRest x → someBranchHolds f S ≡ false
-      first-lacks S {x} m c = some-lacks S x m f k t w (c .from)
+      first-lacks S {x} m c = some-lacks rows reads S x m f k t w (c .from)
 
       each-of-rest-lacks : (S : List Label) {x : ℕ} → List·Memᴰ (ℓ x) S → InFirst x → eachHolds fs S ≡ false
-      each-of-rest-lacks S {x} m c = each-lacks S x m fs (k + size f) u ws (c .below)
+      each-of-rest-lacks S {x} m c = each-lacks rows reads S x m fs (k + size f) u ws (c .below)
 
       any-of-rest-lacks : (S : List Label) {x : ℕ} → List·Memᴰ (ℓ x) S → InFirst x → anyHolds fs S ≡ false
-      any-of-rest-lacks S {x} m c = any-lacks S x m fs (k + size f) u ws (c .below)
+      any-of-rest-lacks S {x} m c = any-lacks rows reads S x m fs (k + size f) u ws (c .below)
 
       i-of-two : List·Memᴰ (ℓ i) Two
       i-of-two = List·Memᴰ·head refl
@@ -222,15 +165,15 @@ module _ (rows reads : List ℕ) where
 
       i-first : InFirst i → InRest j → OfAll
       i-first a b =
-          let y = candidate-held f k t w a in
-          let z = candidates-held fs (k + size f) u ws b .0 in
+          let y = candidate-held rows reads f k t w a in
+          let z = candidates-held rows reads fs (k + size f) u ws b .0 in
           apart (λ r h c. ends-before-j rows i j r (omega (arith, ends-before-rest r h (omega (arith, a .below)), b .from)))
           (simp (y, z, or-true)) (simp (first-lacks Two j-of-two b, any-of-rest-lacks Two i-of-two a))
 
       j-first : InRest i → InFirst j → OfAll
       j-first a b =
-          let y = candidate-held f k t w b in
-          let z = candidates-held fs (k + size f) u ws a .0 in
+          let y = candidate-held rows reads f k t w b in
+          let z = candidates-held rows reads fs (k + size f) u ws a .0 in
           apart before (simp (y, z, or-true)) (simp (first-lacks Two i-of-two a, any-of-rest-lacks Two j-of-two b))
         where
           before : (r : ℕ) → k ≤ r → r < i → over rows i j r ≡ false
@@ -286,7 +229,7 @@ module _ (rows reads : List ℕ) where
     -- one candidate with itself
     shares-with-itself : (i : ℕ) → Among rows i k (size f) → shareBranch f (ℓ i) (ℓ i) ≡ true
     shares-with-itself i a =
-        let (b, m, h) = of-any (λ b. holdsAll b (ℓ i ∷ [])) (branches f) (sym (some-holds f (ℓ i ∷ [])) ∙ candidate-held f k t w a) in
+        let (b, m, h) = of-any (λ b. holdsAll b (ℓ i ∷ [])) (branches f) (sym (some-holds f (ℓ i ∷ [])) ∙ candidate-held rows reads f k t w a) in
         let e = and-left (has b (ℓ i)) true h in
         to-any (λ b. has b (ℓ i) && has b (ℓ i)) m (both (has b (ℓ i)) _ e e)
 

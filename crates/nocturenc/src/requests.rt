@@ -10,8 +10,8 @@ use answers::judged::transition_of;
 use filling::Filled;
 use filling::fill_words;
 use paper::limits::SLOTS;
+use strategy::Judged;
 use strategy::judge_into;
-use verdict::Judged;
 
 // V, N, S and the transition count, or a refusal.
 pub fn judge(words: &[u16]) -> Answer

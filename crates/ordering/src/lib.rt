@@ -7,7 +7,7 @@ ghost use mathlib.Core.Bool.{_&&_};
 ghost use lib.Dec.{ltb};
 ghost use lib.ListN.{length};
 ghost use Rattle.ordering.specs.Inside.Reported.{OrderFilled};
-ghost use Rattle.fingers.specs.Inside.Ready.{Ready};
+ghost use Rattle.fingers.specs.Inside.Followable.{Followable};
 ghost use Rattle.fingers.specs.Inside.Graph.{free};
 ghost use Rattle.ordering.specs.Inside.Placing.{State, Lowered, Visited, Lowest};
 ghost use Rattle.fingers.specs.Inside.Spots.{graphOf};
@@ -56,7 +56,7 @@ fn visit(
     low: &mut [u16; SLOTS],
     k: usize,
 ) -> bool
-    requires { ⌜ Ready (now rows) (now reads) (now chosen) (now net) n × (k < length (now chosen))
+    requires { ⌜ Followable (now rows) (now reads) (now chosen) (now net) n × (k < length (now chosen))
         × State (graphOf (now rows) (now reads) (now chosen) n) k (now placed) (now finger) (now wait) (now low) ⌝ }
     ensures { λ r. ⌜ Visited (graphOf (now (rows .entry)) (now (reads .entry)) (now (chosen .entry)) n) k (now (placed .entry))
         (now (finger .exit)) (now (wait .exit)) (now (low .exit)) r ⌝ }
@@ -91,7 +91,7 @@ fn lowest_ready(
     low: &mut [u16; SLOTS],
     from: usize,
 ) -> usize
-    requires { ⌜ Ready (now rows) (now reads) (now chosen) (now net) n × (from ≤ length (now chosen))
+    requires { ⌜ Followable (now rows) (now reads) (now chosen) (now net) n × (from ≤ length (now chosen))
         × State (graphOf (now rows) (now reads) (now chosen) n) from (now placed) (now finger) (now wait) (now low) ⌝ }
     ensures { λ r. ⌜ Lowest (graphOf (now (rows .entry)) (now (reads .entry)) (now (chosen .entry)) n) (now (placed .entry)) (now (finger .exit))
         (now (wait .exit)) (now (low .exit)) r ⌝ }
@@ -115,7 +115,7 @@ pub fn order(
     n: u16,
     out: &mut [u16; SLOTS],
 ) -> usize
-    requires { ⌜ Ready (now rows) (now reads) (now chosen) (now net) n × (length (now out) ≡ slots) ⌝ }
+    requires { ⌜ Followable (now rows) (now reads) (now chosen) (now net) n × (length (now out) ≡ slots) ⌝ }
     ensures { λ r. ⌜ OrderFilled (now (rows .entry)) (now (reads .entry)) (now (chosen .entry)) (now (out .entry)) (now (out .exit)) r ⌝ }
 {
     let mut placed = [0u16; SLOTS];

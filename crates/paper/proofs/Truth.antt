@@ -66,19 +66,19 @@ module _ (m : Meaning) (S T : Label → Bool) (sub : Part S T) where
 -- a true slice has a branch within its set that slices true: Proposition 5 for a slice
 module _ (m : Meaning) (S : Label → Bool) where
   -- a branch of a list within S, with a claim on it
-  abbrev Found : List (List Label) → (List Label → Type 0) → Type 0
-  Found bs P = (b : List Label) × List·Memᴰ b bs × Part (has b) S × P b
+  abbrev HasBranch : List (List Label) → (List Label → Type 0) → Type 0
+  HasBranch bs P = (b : List Label) × List·Memᴰ b bs × Part (has b) S × P b
 
   inside-leaf : (xs : List ℕ) (f : Formula) (l : Label) → True m xs (cond (S l) f (FALSE l))
-      → Found ((l ∷ []) ∷ []) (λ b. True m xs (cond (has b l) f (FALSE l)))
+      → HasBranch ((l ∷ []) ∷ []) (λ b. True m xs (cond (has b l) f (FALSE l)))
   inside-leaf xs f l h = go (S l) refl h
     where
-      go : (t : Bool) → S l ≡ t → True m xs (cond t f (FALSE l)) → Found ((l ∷ []) ∷ []) (λ b. True m xs (cond (has b l) f (FALSE l)))
+      go : (t : Bool) → S l ≡ t → True m xs (cond t f (FALSE l)) → HasBranch ((l ∷ []) ∷ []) (λ b. True m xs (cond (has b l) f (FALSE l)))
       go true e k = (l ∷ [], List·Memᴰ·head refl, λ i p. rw (has-one l i p) e, rw (has-head l []) k)
       go false e k = absurd k
 
   mutual
-    pub inside : (xs : List ℕ) (f : Formula) → True m xs (sliceBy S f) → Found (branches f) (λ b. True m xs (sliceBy (has b) f))
+    pub inside : (xs : List ℕ) (f : Formula) → True m xs (sliceBy S f) → HasBranch (branches f) (λ b. True m xs (sliceBy (has b) f))
     inside xs (FALSE l) h = absurd h
     inside xs (test s) h = inside-leaf xs (test s) (s .label) h
     inside xs (candidate l v s) h = inside-leaf xs (candidate l v s) l h
@@ -91,7 +91,7 @@ module _ (m : Meaning) (S : Label → Bool) where
     inside xs (IF l s f g) (inr (y, h)) =
         let (b, t, p, r) = inside xs g h in (b, Memᴰ·append-right (branches f) t, p, inr (y, r))
 
-    inside-each : (xs : List ℕ) (fs : Formulas) → EachTrue m xs (slicesBy S fs) → Found (ofEach fs) (λ b. EachTrue m xs (slicesBy (has b) fs))
+    inside-each : (xs : List ℕ) (fs : Formulas) → EachTrue m xs (slicesBy S fs) → HasBranch (ofEach fs) (λ b. EachTrue m xs (slicesBy (has b) fs))
     inside-each xs (only f) h = inside xs f h
     inside-each xs (f ⨾ fs) (h, k) =
         let (b, t, p, r) = inside xs f h in
@@ -100,7 +100,7 @@ module _ (m : Meaning) (S : Label → Bool) where
         let rest = stays-true-each m (has c) (has (b ++ c)) (has-right b c) xs fs s in
         (b ++ c, to-pairs t u, λ l z. pick (has-cases b c l z) (p l) (q l), (first, rest))
 
-    inside-any : (xs : List ℕ) (fs : Formulas) → AnyTrue m xs (slicesBy S fs) → Found (ofAny fs) (λ b. AnyTrue m xs (slicesBy (has b) fs))
+    inside-any : (xs : List ℕ) (fs : Formulas) → AnyTrue m xs (slicesBy S fs) → HasBranch (ofAny fs) (λ b. AnyTrue m xs (slicesBy (has b) fs))
     inside-any xs (only f) h = inside xs f h
     inside-any xs (f ⨾ fs) (inl h) =
         let (b, t, p, r) = inside xs f h in (b, Memᴰ·append-left (ofAny fs) t, p, inl r)

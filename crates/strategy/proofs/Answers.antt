@@ -42,12 +42,12 @@ use Rattle.cycles.specs.Inside.Cyclic.{lowestOnCycle}
 use Rattle.entries.specs.Front.{inFront}
 use Rattle.ordering.specs.Inside.Reported.{OrderFilled}
 use Rattle.filling.specs.Inside.Copied.{copied}
-use Rattle.verdict.specs.declared.Accepted.{Accepted}
-use Rattle.verdict.specs.declared.Judged.{Judged}
-use Rattle.verdict.specs.declared.Judged.the-variants as answer
-use Rattle.verdict.specs.Verdict.{refusedAt, asJudged}
-use Rattle.verdict.specs.Inside.Found.{isStranger, countedAs}
-use Rattle.verdict.proofs.Answers.{counted-answer}
+use Rattle.strategy.specs.declared.Accepted.{Accepted}
+use Rattle.strategy.specs.declared.Judged.{Judged}
+use Rattle.strategy.specs.declared.Judged.the-variants as answer
+use Rattle.strategy.specs.Verdict.{refusedAt, asJudged}
+use Rattle.strategy.specs.Inside.Checks.{isStranger, countedAs}
+use Rattle.strategy.proofs.Verdicts.{counted-answer}
 use Rattle.strategy.specs.Judge.{proposalOf, proposalIn, judgedOf, wordsOfOrder, leftBy, orderIn, orderLeft, JudgedInto}
 use Rattle.strategy.specs.Inside.Parts.{Parts, formulaOf, Covered, JudgedBy, OrderedParts, JudgedParts}
 use Rattle.strategy.proofs.Held.{lentRows, lentReads, lentChosen, of-lent, walkable, few-labels}

@@ -13,8 +13,8 @@ use Rattle.table.specs.declared.Checked.{Checked}
 use Rattle.table.specs.declared.Checked.the-variants.{Sound, Refused}
 use Rattle.table.specs.Table.{checked}
 use Rattle.written.specs.Tables.{formulaIn}
-use Rattle.verdict.specs.Verdict.{acceptedWith, asJudged}
-use Rattle.verdict.proofs.Answers.{accepting}
+use Rattle.strategy.specs.Verdict.{acceptedWith, asJudged}
+use Rattle.strategy.proofs.Verdicts.{accepting}
 use Rattle.strategy.specs.Judge.{proposalIn, judgedAs, judgedOf, AcceptedSo, AcceptedExactly}
 
 module _ (words : List ℕ) (l : Layout) where

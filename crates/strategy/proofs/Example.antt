@@ -6,7 +6,7 @@ use Rattle.table.specs.Table.{layout, rowsIn, readsIn, chosenIn}
 use Rattle.rows.specs.Formula.{starAt, childrenAt, nodeAt, formulaAt}
 use Rattle.written.specs.Example.{wordsOfP}
 use Rattle.written.proofs.Example.{P-is-sound}
-use Rattle.verdict.specs.Verdict.{acceptedWith}
+use Rattle.strategy.specs.Verdict.{acceptedWith}
 use Rattle.strategy.specs.Judge.{judgedAs, judgedOf}
 use Rattle.strategy.specs.Inside.Parts.{Parts, Covered}
 use Rattle.strategy.proofs.Held.{parts-of}

@@ -31,7 +31,7 @@ use Rattle.marks.specs.Inside.Chosen.{AllBelow}
 use Rattle.net.specs.Inside.Net.{Chosen, Net}
 use Rattle.net.proofs.Sound.{chosen-of}
 use Rattle.net.proofs.Spans.{labels-count, labels-between}
-use Rattle.fingers.specs.Inside.Ready.{Ready}
+use Rattle.fingers.specs.Inside.Followable.{Followable}
 use Rattle.strategy.specs.Inside.Parts.{Parts}
 
 pub parts-of : (words : List ℕ) (l : Layout) → checked words ≡ Sound l
@@ -166,7 +166,7 @@ module _ {rows reads chosen : List ℕ} {#V #N : ℕ} (p : Parts rows reads chos
   chosen-rows kinds =
       chosen-of rows reads #V #N (p .keeps) (p .room) (p .most-rows) chosen (p .below) (ascend-all chosen (p .ascends)) kinds (p .some-rows) (p .most-variables)
 
-  pub ready : {net : List ℕ} → Chosen rows chosen #N → Net rows chosen #N net → Ready rows reads chosen net #N
+  pub ready : {net : List ℕ} → Chosen rows chosen #N → Net rows chosen #N net → Followable rows reads chosen net #N
   ready c n = record {
     choice = c;
     netted = n;

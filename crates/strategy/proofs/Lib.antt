@@ -1,3 +1,4 @@
+pub mod Verdicts
 pub mod Held
 pub mod Strangers
 pub mod Placed

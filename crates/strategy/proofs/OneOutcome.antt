@@ -4,6 +4,14 @@ use Rattle.paper.specs.Outcome.{OneOutcome}
 use Rattle.paper.proofs.Outcome.{by-equation}
 use Rattle.strategy.proofs as strategy
 use Rattle.strategy.proofs.checks as checks
+use Rattle.strategy.proofs.choice as choice
+
+pub refused : OneOutcome strategy.refused.Kinds.ps strategy.refused.Kinds.r strategy.refused.Reads.Pre strategy.refused.Reads.Post
+refused κs a pre x y v w p q = (by-equation p q, refl)
+
+pub first-stranger :
+    OneOutcome choice.first_stranger.Kinds.ps choice.first_stranger.Kinds.r choice.first_stranger.Reads.Pre choice.first_stranger.Reads.Post
+first-stranger κs a pre x y v w p q = (by-equation p q, refl)
 
 pub judge : OneOutcome strategy.judge.Kinds.ps strategy.judge.Kinds.r strategy.judge.Reads.Pre strategy.judge.Reads.Post
 judge κs a pre x y v w p q = (by-equation p q, refl)

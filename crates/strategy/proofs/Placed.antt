@@ -28,7 +28,7 @@ use Rattle.net.proofs.PriorIsBefore.{order-by-rows, cycle-by-rows}
 use Rattle.cycles.specs.Inside.Cyclic.{isOnCycle, lowestOnCycle}
 use Rattle.entries.specs.Front.{inFront}
 use Rattle.ordering.specs.Inside.Reported.{ordered, labelled, OrderFilled}
-use Rattle.fingers.specs.Inside.Ready.{Ready}
+use Rattle.fingers.specs.Inside.Followable.{Followable}
 use Rattle.strategy.specs.Judge.{proposalOf, wordsOfOrder}
 use Rattle.strategy.specs.Inside.Parts.{Parts, Covered, formulaOf}
 use Rattle.strategy.proofs.Held.{parts-write, rows-are, ascend-all, chosen-rows, ready}
@@ -121,7 +121,7 @@ module _ {rows reads chosen : List ℕ} {#V #N : ℕ} (c : Covered rows reads ch
   pub choice : Chosen rows chosen #N
   choice = chosen-rows p kinds
 
-  pub readied : {net : List ℕ} → Net rows chosen #N net → Ready rows reads chosen net #N
+  pub readied : {net : List ℕ} → Net rows chosen #N net → Followable rows reads chosen net #N
   readied n = ready p choice n
 
   abbrev f : Formula

@@ -6,9 +6,9 @@ use mathlib.Core.List.{List}
 use denote.Ref.{now}
 use Rattle.paper.specs.Outcome.{RefusalLeaves}
 use Rattle.table.specs.declared.Layout.{Layout}
-use Rattle.verdict.specs.declared.Judged.{Judged}
-use Rattle.verdict.specs.declared.Judged.the-variants as answer
-use Rattle.verdict.specs.Verdict.{IsRefusal}
+use Rattle.strategy.specs.declared.Judged.{Judged}
+use Rattle.strategy.specs.declared.Judged.the-variants as answer
+use Rattle.strategy.specs.Verdict.{IsRefusal}
 use Rattle.strategy.specs.Judge.{leftBy, orderIn, orderLeft}
 use Rattle.strategy.proofs as strategy
 use Rattle.strategy.proofs.checks as checks

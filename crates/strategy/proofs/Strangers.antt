@@ -23,7 +23,7 @@ use Rattle.entries.proofs.First.{first-below, first-at}
 use Rattle.written.proofs.Words.{word-mem, Each, each-none, each-cons, each-append}
 use Rattle.written.proofs.Writes.{Writes, WritesAll}
 use Rattle.net.proofs.Spans.{candidate-listed}
-use Rattle.verdict.specs.Inside.Found.{isStranger}
+use Rattle.strategy.specs.Inside.Checks.{isStranger}
 use Rattle.strategy.specs.Judge.{proposalOf}
 use Rattle.strategy.specs.Inside.Parts.{Parts, formulaOf}
 use Rattle.strategy.proofs.Held.{parts-write, rows-are}

@@ -18,9 +18,9 @@ use Rattle.table.specs.declared.Checked.the-variants.{Sound, Refused}
 use Rattle.table.specs.Table.{checked, chosenIn}
 use Rattle.written.specs.Tables.{formulaIn}
 use Rattle.entries.specs.Front.{inFront}
-use Rattle.verdict.specs.declared.Judged.{Judged}
-use Rattle.verdict.specs.declared.Judged.the-variants as answer
-use Rattle.verdict.specs.Verdict.{acceptedWith, asJudged}
+use Rattle.strategy.specs.declared.Judged.{Judged}
+use Rattle.strategy.specs.declared.Judged.the-variants as answer
+use Rattle.strategy.specs.Verdict.{acceptedWith, asJudged}
 
 -- the proposal that a strategy section makes
 abbrev pub proposalOf : List ℕ → List Label

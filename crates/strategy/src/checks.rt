@@ -4,27 +4,52 @@ ghost use mathlib.Core.List.{map};
 ghost use lib.ListN.{length};
 ghost use Rattle.paper.specs.Formula.{ℓ};
 ghost use Rattle.marks.specs.Inside.Chosen.{Marked};
+ghost use Rattle.rows.specs.Inside.Walk.{Walkable};
+ghost use Rattle.keys.specs.Inside.Keys.{total, keysAt};
+ghost use Rattle.strategy.specs.Inside.Checks.{countedAs};
 ghost use Rattle.strategy.specs.Inside.Parts.{Parts, Covered, OrderedParts, JudgedParts};
-ghost use Rattle.paper.specs.Limits.{slots};
+ghost use Rattle.paper.specs.Limits.{mostDepth, slots};
+use crate::Accepted;
+use crate::Judged;
+use crate::refused;
+use crate::choice::first_stranger;
 use cover::Covering;
 use cover::covering_of;
 use cycles::lowest_on_cycle;
 use filling::copy_words;
+use keys::keys_of;
+use keys::total_of;
 use marks::marks_of;
 use net::NET_LENGTH;
 use net::note_net;
 use ordering::order;
+use paper::Label;
+use paper::limits::MOST_DEPTH;
 use paper::limits::MOST_ROWS;
+use paper::limits::MOST_TRANSITIONS;
 use paper::limits::SLOTS;
 use paper::refusals::NO_CANDIDATE;
 use paper::refusals::NO_ORDER;
+use paper::refusals::TOO_MANY;
 use paper::refusals::VARIABLE_MISSED;
 use paper::refusals::VARIABLE_TWICE;
 use table::Layout;
-use verdict::Judged;
-use verdict::counted;
-use verdict::first_stranger;
-use verdict::refused;
+
+// 14, or an acceptance.
+fn counted(rows: &[u16], marks: &[u8; MOST_ROWS], l: Layout) -> Judged
+    requires { ⌜ Walkable (now rows) (l .rows) 0 ⌝ }
+    ensures { λ r. ⌜ r ≡ countedAs l (total (keysAt (now (rows .entry)) (now (marks .entry)) mostDepth 0)) ⌝ }
+{
+    let n = l.rows as u16;
+    let transitions = total_of(keys_of(rows, marks, n, Label(0), MOST_DEPTH));
+    if MOST_TRANSITIONS < transitions {
+        return refused(TOO_MANY, 0);
+    }
+    Judged::Accepted(Accepted {
+        layout: l,
+        transitions: transitions as usize,
+    })
+}
 
 // 13, and what follows it. The order is worked out in an array of its own: only an acceptance writes to `out`.
 fn ordered(

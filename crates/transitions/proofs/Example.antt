@@ -43,14 +43,14 @@ P-has-two : total (keysAt rowsOfP marksOfP 64 0) ≡ 2
 unfolding isMarked joinKeys formOf starAt childrenAt nodeAt formulaAt valueAt
 P-has-two = refl
 
-P-keepable : (k : ℕ) → k < 2 → Keepable rowsOfP marksOfP (replicate 8 7) 8 0 64 (keysAt rowsOfP marksOfP 64 0) k true
+P-keepable : (k : ℕ) → k < 2 → Keepable rowsOfP marksOfP (replicate 8 7) 8 0 64 (keysAt rowsOfP marksOfP 64 0) k
 P-keepable k h = record {
   walkable = record { shaped = shaped rowsOfP (0 ∷ []) 2 8 keep (omega arith) (omega arith); here = omega arith };
   room = omega arith;
   size = refl;
   own-are = refl;
-  few = λ on. omega (arith, P-has-two);
-  among = λ on. omega (arith, P-has-two);
+  few = omega (arith, P-has-two);
+  among = omega (arith, P-has-two);
 }
 
 bytesOf1 : List ℕ

@@ -62,8 +62,8 @@ module _ (P : Label → Type 0) where
       every-kept (f ⨾ fs) h = all-append (first-kept f (all-kept f 0 (h .0))) (every-kept fs (h .1))
 
 -- cleared bytes, with those of the kept labels set
-pub kept-marked : {rows marks out cleared after : List ℕ} {#N k : ℕ} {own : Distinct} → Keepable rows marks out #N 0 64 own k true
-    → cleared ≡ replicate #N 0 ++ drop #N out → KeptAfter rows marks 64 0 k true cleared after → MarkedKept rows marks #N k out after
+pub kept-marked : {rows marks out cleared after : List ℕ} {#N k : ℕ} {own : Distinct} → Keepable rows marks out #N 0 64 own k
+    → cleared ≡ replicate #N 0 ++ drop #N out → KeptAfter rows marks 64 0 k cleared after → MarkedKept rows marks #N k out after
 kept-marked {rows} {marks} {out} {after = after} {#N} {k} p c q = record {
   bytes-are = λ A marked reads.
       let f = formulaAt rows reads 64 0 in

@@ -82,10 +82,10 @@ module _ (#V : ℕ) (f : Formula) (A : List Label) (formed : WellFormed #V f) (h
     number-is : total (keysAt rows marks 64 0) ≡ length (keys f A)
     number-is = keys-number-within rows marks 64 0 A marked w reads (subst (λ n. n ≤ 65535) count few) ∙ sym count
 
-    pub transition-keepable : (own : Distinct) → own ≡ keysAt rows marks 64 0 → (out : List ℕ) → #N ≤ length out → Keepable rows marks out #N 0 64 own k true
+    pub transition-keepable : (own : Distinct) → own ≡ keysAt rows marks 64 0 → (out : List ℕ) → #N ≤ length out → Keepable rows marks out #N 0 64 own k
     transition-keepable own own-are out room =
         let n = ap total own-are ∙ number-is in
-        record { walkable = w; room = room; size = marked .size; own-are = own-are; few = λ on. omega arith; among = λ on. omega arith }
+        record { walkable = w; room = room; size = marked .size; own-are = own-are; few = omega arith; among = omega arith }
 
 pub transition-says : (#V : ℕ) (f : Formula) (A : List Label) → EachTransitionSays #V f A
 transition-says = kth-says

@@ -2,11 +2,11 @@
 -- promises of `keep` and `mark_kept` speak of every strategy whose marks these are; there is one, that of the labels marked.
 use Prim.Native.Nat.{ℕ, zero, suc, _<_, _≤_, _+_}
 use native.Mathlib.Omega.{arith}
-use mathlib.Core.Path.{_≡_, refl, sym, ap, _∙_}
+use mathlib.Core.Path.{_≡_, refl}
 use mathlib.Core.Bool.{Bool, true}
-use mathlib.Core.List.{List, [], _++_}
+use mathlib.Core.List.{List, []}
 use lib.Dec.{eqb}
-use lib.ListN.{length, drop}
+use lib.ListN.{length}
 use borrow.Author.Tests.{eq-eqb}
 use Rattle.paper.specs.declared.Label.{Label}
 use Rattle.paper.specs.Lists.{those}
@@ -51,7 +51,7 @@ of-marks : {A : Type 0} {marks : List ℕ} → length marks ≡ 4096 → (value 
 of-marks {marks = marks} size value p q = let m = chosen-marked marks size in by-equation (p (chosenBy marks) m []) (q (chosenBy marks) m [])
 
 pub keep : OneOutcome kept.keep.Kinds.ps kept.keep.Kinds.r kept.keep.Reads.Pre kept.keep.Reads.Post
-keep κs a pre x y v w p q = (refl, λ i. (tt, (tt, (tt, (tt, (tt, (tt, (tt, (tt, (of-marks (pre .size) _ (p .bytes-are) (q .bytes-are) i, tt))))))))))
+keep κs a pre x y v w p q = (refl, λ i. (tt, (tt, (tt, (tt, (tt, (tt, (tt, (of-marks (pre .size) _ (p .bytes-are) (q .bytes-are) i, tt)))))))))
 
 pub mark-kept : OneOutcome kept.mark_kept.Kinds.ps kept.mark_kept.Kinds.r kept.mark_kept.Reads.Pre kept.mark_kept.Reads.Post
 mark-kept κs a pre x y v w p q = (refl, λ i. (tt, (tt, (tt, (tt, (tt, (of-marks (pre .size) _ (p .bytes-are) (q .bytes-are) i, tt)))))))

@@ -3,7 +3,7 @@
 use Prim.Native.Nat.{ℕ, _-_, _<_, _≤_}
 use native.Mathlib.Omega.{arith}
 use mathlib.Core.Path.{_≡_, refl, sym, ap, subst, _∙_}
-use mathlib.Core.Bool.{Bool, true, false}
+use mathlib.Core.Bool.{true, false}
 use mathlib.Core.List.{List, _∷_}
 use lib.ListN.{length, set}
 use borrow.Author.Tests.{eq-eqb}
@@ -27,20 +27,29 @@ use Rattle.transitions.proofs.Sharing.{Fits, fits-take, fits-next, fits
 use Rattle.transitions.proofs.KeptRows.{kept-none, kept-lone, eachUnder, keptIn, keptFrom, kept-step, kept-end, kept-to-come, fits-under, kept-under}
 use Rattle.transitions.proofs.MarkedBytes.{marked-append}
 
--- a walk that does not take place sets nothing, and a leaf's walk sets its own byte
-module _ {rows marks : List ℕ} {left i k : ℕ} {on : Bool} {out : List ℕ} where
-  pub kept-off : on ≡ false → KeptAfter rows marks left i k on out out
+-- a leaf's walk sets its own byte
+module _ {rows marks : List ℕ} {left i k : ℕ} {out : List ℕ} where
+  pub set-with-none : left ≡ 0 → KeptAfter rows marks left i k out (set out i 1)
   unfolding markedBy
-  kept-off off = record { bytes-are = λ A marked reads. rw off }
+  set-with-none none = record { bytes-are = λ A marked reads. rw (kept-none A rows reads left i k none) }
 
-  module _ (is-on : on ≡ true) where
-    pub set-with-none : left ≡ 0 → KeptAfter rows marks left i k on out (set out i 1)
-    unfolding markedBy
-    set-with-none none = record { bytes-are = λ A marked reads. rw (is-on, kept-none A rows reads left i k none) }
+  pub set-alone : {kind : ℕ} → (left ≡ 0 → ⊥) → kind ≡ kindOf rows i → kind < 3 → KeptAfter rows marks left i k out (set out i 1)
+  unfolding markedBy
+  set-alone {kind} deep e low = record { bytes-are = λ A marked reads. rw (kept-lone A rows reads left i k deep kind e low) }
 
-    pub set-alone : {kind : ℕ} → (left ≡ 0 → ⊥) → kind ≡ kindOf rows i → kind < 3 → KeptAfter rows marks left i k on out (set out i 1)
-    unfolding markedBy
-    set-alone {kind} deep e low = record { bytes-are = λ A marked reads. rw (is-on, kept-lone A rows reads left i k deep kind e low) }
+-- The bytes after a child's turn: where it takes part, those of the labels that its key keeps are set, else they stay.
+pub record Turned (rows marks : List ℕ) (left : ℕ) (u : Turn) (i : ℕ) (before after : List ℕ) : Type 0 where
+  pub same-length : length after ≡ length before
+  pub bytes-are : (A : List Label) → Marked A marks → (reads : List ℕ) → after ≡ markedBy (keptIn A rows marks reads left u i) before
+
+module _ {rows marks : List ℕ} {left i : ℕ} {u : Turn} {out after : List ℕ} (now : after ≡ out) where
+  pub turned-on : {before : List ℕ} → u .on ≡ true → length out ≡ length before → KeptAfter rows marks left i (u .key) before out
+      → Turned rows marks left u i before after
+  turned-on on same q = rw now (record { same-length = same; bytes-are = λ A marked reads. rw on (q .bytes-are A marked reads) })
+
+  pub turned-off : u .on ≡ false → Turned rows marks left u i out after
+  unfolding markedBy
+  turned-off off = rw now (record { same-length = refl; bytes-are = λ A marked reads. rw off })
 
 -- The loop began with bytes out₀, shares s₀ and m₀ expressions from label c₀ on; now it stands at out, s, m and c.
 pub record Taking (rows marks : List ℕ) (#N left : ℕ) (out₀ : List ℕ) (s₀ : Shares) (c₀ : Label) (m₀ : ℕ) (out : List ℕ) (s : Shares) (c : Label) (m : ℕ)
@@ -52,14 +61,14 @@ pub record Taking (rows marks : List ℕ) (#N left : ℕ) (out₀ : List ℕ) (s
       → markedBy (keptFrom A rows marks reads (left - 1) s m (c .0)) out ≡ markedBy (keptFrom A rows marks reads (left - 1) s₀ m₀ (c₀ .0)) out₀
 
 -- at row i, whose kind word is that of a join, for key k
-module _ {rows marks : List ℕ} {#N i left k kind m₀ : ℕ} {c₀ : Label} {s₀ : Shares} {out₀ : List ℕ} {own : Distinct} {on : Bool}
-    (e : kind ≡ kindOf rows i) (join : 2 < kind) (deep : left ≡ 0 → ⊥) (p : Keepable rows marks out₀ #N i left own k on) (is-on : on ≡ true)
+module _ {rows marks : List ℕ} {#N i left k kind m₀ : ℕ} {c₀ : Label} {s₀ : Shares} {out₀ : List ℕ} {own : Distinct}
+    (e : kind ≡ kindOf rows i) (join : 2 < kind) (deep : left ≡ 0 → ⊥) (p : Keepable rows marks out₀ #N i left own k)
     (s-is : s₀ ≡ sharesOf (eachUnder kind) own k) (m-is : m₀ ≡ expressionsAt rows i) (c-is : c₀ ≡ ℓ (firstAt rows i)) where
   few : total (keysAt rows marks left i) ≤ 65535
-  few = rw (p .own-are) at (p .few is-on)
+  few = rw (p .own-are) at (p .few)
 
   among : k < total (keysAt rows marks left i)
-  among = rw (p .own-are) at (p .among is-on)
+  among = rw (p .own-are) at (p .among)
 
   -- it holds as the loop begins
   pub taking-begins : Taking rows marks #N left out₀ s₀ c₀ m₀ out₀ s₀ c₀ m₀
@@ -72,12 +81,12 @@ module _ {rows marks : List ℕ} {#N i left k kind m₀ : ℕ} {c₀ : Label} {s
 
   -- with no expression left, the bytes are those of key k
   pub taking-ends : {out : List ℕ} {s : Shares} {c : Label} {m : ℕ} → Taking rows marks #N left out₀ s₀ c₀ m₀ out s c m → m ≤ 0
-      → KeptAfter rows marks left i k on out₀ out
+      → KeptAfter rows marks left i k out₀ out
   unfolding markedBy
   taking-ends {out} {s} {c} {m} t done = record {
-    bytes-are = λ A marked reads. rw is-on
-        (ap (λ ls. markedBy ls out) (sym (kept-end A rows marks reads (left - 1) s m (c .0) (omega arith))) ∙ t .marks-all A marked reads
-        ∙ ap (λ ls. markedBy ls out₀) (sym (all A marked reads)));
+    bytes-are = λ A marked reads.
+        ap (λ ls. markedBy ls out) (sym (kept-end A rows marks reads (left - 1) s m (c .0) (omega arith))) ∙ t .marks-all A marked reads
+        ∙ ap (λ ls. markedBy ls out₀) (sym (all A marked reads));
   }
     where
       all : (A : List Label) → Marked A marks → (reads : List ℕ)
@@ -135,23 +144,23 @@ module _ {rows marks : List ℕ} {#N left : ℕ} {out₀ : List ℕ} {s₀ : Sha
       turn-here : u ≡ turnOf s own
       turn-here = u-is ∙ ap (turnOf s) n-is
 
-      -- it is asked only for a key of its own
-      pub taking-asks : #N ≤ length out₀ → length marks ≡ 4096 → Keepable rows marks out #N (c .0) (left - 1) keys (u .key) (u .on)
-      taking-asks room size = record {
+      -- where it takes part, it is asked for a key of its own
+      pub taking-asks : u .on ≡ true → #N ≤ length out₀ → length marks ≡ 4096 → Keepable rows marks out #N (c .0) (left - 1) keys (u .key)
+      taking-asks on room size = record {
         walkable = taking-on;
         room = let e = t .same-length in omega arith;
         size = size;
         own-are = keys-are;
-        few = λ on. rw keys-are (fits-on own others s fits-here (sym (ap (λ u. u .on) turn-here) ∙ on) .0);
-        among = λ on. rw (keys-are, turn-here) (fits-on own others s fits-here (sym (ap (λ u. u .on) turn-here) ∙ on) .1);
+        few = rw keys-are (fits-on own others s fits-here (sym (ap (λ u. u .on) turn-here) ∙ on) .0);
+        among = rw (keys-are, turn-here) (fits-on own others s fits-here (sym (ap (λ u. u .on) turn-here) ∙ on) .1);
       }
 
       -- and after it, with what it keeps set and c moved to its end, it holds again
-      pub taking-turns : {out′ : List ℕ} {s′ : Shares} {c′ : Label} {m′ : ℕ} → length out′ ≡ length out
-          → KeptAfter rows marks (left - 1) (c .0) (u .key) (u .on) out out′ → s′ ≡ u .next → c′ ≡ ℓ (endOf rows (c .0)) → m′ ≡ toCome s′ (m - 1)
+      pub taking-turns : {out′ : List ℕ} {s′ : Shares} {c′ : Label} {m′ : ℕ}
+          → Turned rows marks (left - 1) u (c .0) out out′ → s′ ≡ u .next → c′ ≡ ℓ (endOf rows (c .0)) → m′ ≡ toCome s′ (m - 1)
           → Taking rows marks #N left out₀ s₀ c₀ m₀ out′ s′ c′ m′
-      taking-turns {out′} {s′} {c′} {m′} same kept s-is c-is m-is = record {
-        same-length = same ∙ t .same-length;
+      taking-turns {out′} {s′} {c′} {m′} kept s-is c-is m-is = record {
+        same-length = kept .same-length ∙ t .same-length;
         along = let w = taking-on in
             rw (number-of c-is, m-is) (along-to-come s′ (w .shaped .within (c .0) (w .here)) (along-next (t .along) some));
         fits = rw (number-of c-is, m-is) (fits-to-come rows marks (left - 1) s′ (m - 1) (endOf rows (c .0)) (rw next-is (fits-next own others s fits-here)));

@@ -89,7 +89,7 @@ fn to_come(s: Shares, m: u16) -> u16
 }
 
 // Sets the bytes of the labels that key k of the formula at a row keeps, the formula being `left` levels deep at most and `own`
-// its keys; of none where `on` is false. The keys of a child are counted once, for its turn and for the walk that goes on there.
+// its keys. The keys of a child are counted once, for its turn and for the walk that goes on there.
 pub fn keep(
     rows: &[u16],
     marks: &[u8; MOST_ROWS],
@@ -98,16 +98,12 @@ pub fn keep(
     left: u16,
     own: Distinct,
     k: u64,
-    on: bool,
     out: &mut [u8],
 )
-    requires { ⌜ Keepable (now rows) (now marks) (now out) n (at .0) left own k on ⌝ }
-    ensures { λ _. ⌜ KeptAfter (now (rows .entry)) (now (marks .entry)) left (at .0) k on (now (out .entry)) (now (out .exit)) ⌝ }
+    requires { ⌜ Keepable (now rows) (now marks) (now out) n (at .0) left own k ⌝ }
+    ensures { λ _. ⌜ KeptAfter (now (rows .entry)) (now (marks .entry)) left (at .0) k (now (out .entry)) (now (out .exit)) ⌝ }
 {
     let i = at.0 as usize;
-    if !on {
-        return;
-    }
     if left == 0 {
         out[i] = 1;
         return;
@@ -125,7 +121,9 @@ pub fn keep(
             while 0 < m {
                 let keys = keys_of(rows, marks, n, c, left - 1);
                 let t = turn_of(s, total_of(keys));
-                keep(rows, marks, n, c, left - 1, keys, t.key, t.on, out);
+                if t.on {
+                    keep(rows, marks, n, c, left - 1, keys, t.key, out);
+                }
                 s = t.next;
                 c = end_of(rows, c);
                 m = to_come(s, m - 1);
@@ -158,9 +156,9 @@ pub fn mark_kept(
     k: u64,
     out: &mut [u8],
 )
-    requires { ⌜ Keepable (now rows) (now marks) (now out) n 0 mostDepth own k true ⌝ }
+    requires { ⌜ Keepable (now rows) (now marks) (now out) n 0 mostDepth own k ⌝ }
     ensures { λ _. ⌜ MarkedKept (now (rows .entry)) (now (marks .entry)) n k (now (out .entry)) (now (out .exit)) ⌝ }
 {
     clear(out, n);
-    keep(rows, marks, n, Label(0), MOST_DEPTH, own, k, true, out);
+    keep(rows, marks, n, Label(0), MOST_DEPTH, own, k, out);
 }

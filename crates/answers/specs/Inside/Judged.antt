@@ -12,8 +12,8 @@ use Rattle.keys.specs.declared.Distinct.{Distinct}
 use Rattle.keys.specs.Inside.Keys.{keysAt}
 use Rattle.filling.specs.declared.Filled.{Filled}
 use Rattle.filling.specs.declared.Filled.the-variants as filled
-use Rattle.verdict.specs.declared.Accepted.{Accepted}
-use Rattle.verdict.specs.declared.Judged.the-variants as judged
+use Rattle.strategy.specs.declared.Accepted.{Accepted}
+use Rattle.strategy.specs.declared.Judged.the-variants as judged
 use Rattle.strategy.specs.Judge.{judgedOf, proposalIn}
 use Rattle.answers.specs.declared.Counts.{Counts}
 use Rattle.answers.specs.declared.numbered.Basis.{Basis}

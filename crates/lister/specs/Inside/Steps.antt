@@ -9,9 +9,9 @@ use lib.ListN.{length, take, drop}
 use Rattle.paper.specs.Limits.{mostBytes, mostRows, mostTransitions, mostVariables, slots}
 use Rattle.table.specs.declared.Layout.{Layout}
 use Rattle.keys.specs.declared.Distinct.{Distinct}
-use Rattle.verdict.specs.declared.Accepted.{Accepted}
-use Rattle.verdict.specs.declared.Judged.{Judged}
-use Rattle.verdict.specs.declared.Judged.the-variants as judged
+use Rattle.strategy.specs.declared.Accepted.{Accepted}
+use Rattle.strategy.specs.declared.Judged.{Judged}
+use Rattle.strategy.specs.declared.Judged.the-variants as judged
 use Rattle.input.specs.Bytes.{wordsOf, judgedBytes}
 use Rattle.answers.specs.declared.numbered.Basis.{Basis}
 use Rattle.answers.specs.Inside.Judged.{AcceptedAs, Ordered, Based, BasedExactly}

@@ -12,8 +12,8 @@ use Rattle.entries.specs.First.{first}
 use Rattle.rows.specs.Rows.{keepsRules, isDeep}
 use Rattle.rows.specs.Formula.{formulaAt}
 use Rattle.written.specs.Written.{Ascend}
-use Rattle.verdict.specs.declared.Judged.{Judged}
-use Rattle.verdict.specs.Verdict.{asJudged}
+use Rattle.strategy.specs.declared.Judged.{Judged}
+use Rattle.strategy.specs.Verdict.{asJudged}
 use Rattle.strategy.specs.Judge.{proposalOf, wordsOfOrder, leftBy}
 
 -- What the judgement of sound parts asks: rows that keep their rules, no deeper than 64, which so write the formula that is read

@@ -60,19 +60,19 @@ markedBy [] out = out
 markedBy (l ∷ ls) out = markedBy ls (set out (l .0) 1)
 
 -- What a walk to the labels of key k of the formula at row i asks: rows to walk, a byte for each, a mark for each label, the
--- formula's own keys, and, where the walk takes place, a number of them within the limit and k among them.
-pub record Keepable (rows marks out : List ℕ) (#N i left : ℕ) (own : Distinct) (k : ℕ) (on : Bool) : Type 0 where
+-- formula's own keys, no more than the limit, and k among them.
+pub record Keepable (rows marks out : List ℕ) (#N i left : ℕ) (own : Distinct) (k : ℕ) : Type 0 where
   pub walkable : Walkable rows #N i
   pub room : #N ≤ length out
   pub size : length marks ≡ mostRows
   pub own-are : own ≡ keysAt rows marks left i
-  pub few : on ≡ true → total own ≤ mostTransitions
-  pub among : on ≡ true → k < total own
+  pub few : total own ≤ mostTransitions
+  pub among : k < total own
 
 -- The bytes afterwards: those of the labels that key k keeps are set, whatever strategy the marks are of and whatever the
 -- stars read.
-pub record KeptAfter (rows marks : List ℕ) (left i k : ℕ) (on : Bool) (before after : List ℕ) : Type 0 where
-  pub bytes-are : (A : List Label) → Marked A marks → (reads : List ℕ) → after ≡ markedBy (cond on (keptAt A (formulaAt rows reads left i) k) []) before
+pub record KeptAfter (rows marks : List ℕ) (left i k : ℕ) (before after : List ℕ) : Type 0 where
+  pub bytes-are : (A : List Label) → Marked A marks → (reads : List ℕ) → after ≡ markedBy (keptAt A (formulaAt rows reads left i) k) before
 
 -- a byte for each of the labels below n: 1 for those that pass the test, else 0
 abbrev pub bytesOf : (Label → Bool) → ℕ → List ℕ

@@ -5,11 +5,11 @@ use Prim.Native.Nat.{ℕ, _-_, _<_}
 use native.Mathlib.Omega.{arith}
 use mathlib.Core.Path.{refl}
 use lib.ListN.{length-set}
-use borrow.Author.Tests.{not-true, not-false}
 use borrow.Fn.Kinds.{In}
 use borrow.Fn.PlainCycle.{Measures, is, falls, and}
+use Rattle.paper.proofs.Bools.{pick}
 use Rattle.rows.proofs.Walks.{row-there, row-few, row-known}
-use Rattle.transitions.proofs.Taking.{kept-off, set-with-none, set-alone, Taking, taking-begins, taking-on}
+use Rattle.transitions.proofs.Taking.{turned-on, turned-off, set-with-none, set-alone, Taking, taking-begins, taking-on}
 use Rattle.transitions.proofs.Taking.{taking-take, taking-asks, taking-turns, taking-ends, to-come-most}
 use Rattle.transitions.proofs.kept.keep.Reads as keep
 use Rattle.transitions.proofs.kept.keep.Kinds as kinds
@@ -36,10 +36,10 @@ abbrev below : ℕ → In 3 kinds.ps
 below t = and 3 kinds.ps (falls 3 kinds.ps _<_ μ t) keep.Pre
 
 abbrev Inv : lts.InvT-loop
-Inv rows marks n left k on out₀ i kind each s₀ c₀ m₀ out s c m = Taking rows marks n left out₀ s₀ c₀ m₀ out s c m
+Inv rows marks n left k out₀ i kind each s₀ c₀ m₀ out s c m = Taking rows marks n left out₀ s₀ c₀ m₀ out s c m
 
 abbrev μ-loop : lts.MeasureT-loop
-μ-loop rows marks n left k on out₀ i kind each s₀ c₀ m₀ out s c m = m
+μ-loop rows marks n left k out₀ i kind each s₀ c₀ m₀ out s c m = m
 
 abbrev cs : ℕ → lts.Claims
 cs t = (
@@ -69,56 +69,49 @@ module _ (t : ℕ) where
   cast-i : lts.Need-cast-i (cs t) (here t) keep.Post Inv μ-loop
   cast-i c = search needs
 
-  returns : lts.Need-returns (cs t) (here t) keep.Post Inv μ-loop
-  returns c = kept-off (not-true _ (c .if1 .taken))
-
   slice-write-out : lts.Need-slice-write-out (cs t) (here t) keep.Post Inv μ-loop
   slice-write-out c =
-      let p = c .before .before .before .before .before .pre .1 in
+      let p = c .before .before .before .before .pre .1 in
       let h = p .walkable .here in omega (arith, p .room)
 
   same-length : lts.Need-same-length (cs t) (here t) keep.Post Inv μ-loop
-  same-length c = let a = c .before .before .before .before .before .args in length-set (a .out .now) (a .at .0) 1
+  same-length c = let a = c .before .before .before .before .args in length-set (a .out .now) (a .at .0) 1
 
-  returns-2 : lts.Need-returns-2 (cs t) (here t) keep.Post Inv μ-loop
-  returns-2 c = set-with-none (not-false _ (c .before .if1 .left)) (c .if2 .taken)
+  returns : lts.Need-returns (cs t) (here t) keep.Post Inv μ-loop
+  returns c = set-with-none (c .if1 .taken)
 
   kind-of-requires : lts.Need-kind-of-requires (cs t) (here t) keep.Post Inv μ-loop
-  kind-of-requires c κs = row-there (c .before .before .before .before .before .pre .1 .walkable)
+  kind-of-requires c κs = row-there (c .before .before .before .before .pre .1 .walkable)
 
   slice-write-out-2 : lts.Need-slice-write-out-2 (cs t) (here t) keep.Post Inv μ-loop
   slice-write-out-2 c =
-      let p = c .before .before .before .before .before .before .before .pre .1 in
+      let p = c .before .before .before .before .before .before .pre .1 in
       let h = p .walkable .here in omega (arith, p .room)
 
   shares-of-requires : lts.Need-shares-of-requires (cs t) (here t) keep.Post Inv μ-loop
-  shares-of-requires c κs =
-      let i1 = c .before .before .before .before in
-      let s = i1 .before .before .before .before in
-      omega (arith, s .pre .1 .few (not-false _ (i1 .if1 .left)))
+  shares-of-requires c κs = omega (arith, c .before .before .before .before .before .before .before .pre .1 .few)
 
   first-of-requires : lts.Need-first-of-requires (cs t) (here t) keep.Post Inv μ-loop
   first-of-requires c κs =
-      let w = c .before .before .before .before .before .before .before .before .before .pre .1 .walkable in
+      let w = c .before .before .before .before .before .before .before .before .pre .1 .walkable in
       (row-there w, row-few w)
 
   expressions-of-requires : lts.Need-expressions-of-requires (cs t) (here t) keep.Post Inv μ-loop
-  expressions-of-requires c κs = row-there (c .before .before .before .before .before .before .before .before .before .before .pre .1 .walkable)
+  expressions-of-requires c κs = row-there (c .before .before .before .before .before .before .before .before .before .pre .1 .walkable)
 
   loop-holds : lts.Need-loop-holds (cs t) (here t) keep.Post Inv μ-loop
   loop-holds c =
       let f = c .before in
       let sh = f .before in
-      let i3 = sh .before .before in
-      let k = i3 .before in
-      let i2 = k .before in
-      let i1 = i2 .before in
+      let i2 = sh .before .before in
+      let k = i2 .before in
+      let i1 = k .before in
       let s = i1 .before .before .before .before in
-      taking-begins (k .kind-of .ensures) (omega (arith, i3 .if3 .left)) (i2 .if2 .left) (s .pre .1) (not-false _ (i1 .if1 .left))
-      (sh .shares-of .ensures) (c .expressions-of .ensures) (f .first-of .ensures)
+      taking-begins (k .kind-of .ensures) (omega (arith, i2 .if2 .left)) (i1 .if1 .left) (s .pre .1) (sh .shares-of .ensures)
+      (c .expressions-of .ensures) (f .first-of .ensures)
 
   sub-keys-of : lts.Need-sub-keys-of (cs t) (here t) keep.Post Inv μ-loop
-  sub-keys-of c = omega (arith, c .before .before .before .before .before .before .before .before .if2 .left)
+  sub-keys-of c = omega (arith, c .before .before .before .before .before .before .before .before .if1 .left)
 
   keys-of-requires : lts.Need-keys-of-requires (cs t) (here t) keep.Post Inv μ-loop
   keys-of-requires c κs = taking-on (c .before .loop .inv) (c .loop-test .taken)
@@ -134,36 +127,37 @@ module _ (t : ℕ) where
       taking-take (l .loop .inv) (lt .loop-test .taken) (k .keys-of .ensures .0) (c .total-of .ensures)
 
   sub-keep : lts.Need-sub-keep (cs t) (here t) keep.Post Inv μ-loop
-  sub-keep c = omega (arith, c .before .before .before .before .before .before .before .before .before .before .before .if2 .left)
+  sub-keep c = omega (arith, c .before .before .before .before .before .before .before .before .before .before .before .before .if1 .left)
 
   keep-requires : lts.Need-keep-requires (cs t) (here t) keep.Post Inv μ-loop
   keep-requires c κs =
-      let tu = c .before in
+      let tu = c .before .before in
       let to = tu .before in
       let k = to .before in
       let lt = k .before in
       let l = lt .before in
-      let i2 = l .before .before .before .before .before .before .before in
-      let s = i2 .before .before .before .before .before in (
-        omega (arith, s .pre .0, i2 .if2 .left),
-        taking-asks (l .loop .inv) (lt .loop-test .taken) (k .keys-of .ensures .0) (to .total-of .ensures) (tu .turn-of .ensures) (s .pre .1 .room) (s .pre .1 .size),
+      let i1 = l .before .before .before .before .before .before .before in
+      let s = i1 .before .before .before .before in (
+        omega (arith, s .pre .0, i1 .if1 .left),
+        taking-asks (l .loop .inv) (lt .loop-test .taken) (k .keys-of .ensures .0) (to .total-of .ensures) (tu .turn-of .ensures)
+            (c .before .if4 .taken) (s .pre .1 .room) (s .pre .1 .size),
       )
 
   end-of-requires : lts.Need-end-of-requires (cs t) (here t) keep.Post Inv μ-loop
   end-of-requires c κs =
-      let lt = c .before .before .before .before .before .before .before in
+      let lt = c .before .before .before .before in
       let l = lt .before in
       row-there (taking-on (l .loop .inv) (lt .loop-test .taken))
 
   sub-to-come : lts.Need-sub-to-come (cs t) (here t) keep.Post Inv μ-loop
-  sub-to-come c = omega (arith, c .before .before .before .before .before .before .before .before .loop-test .taken)
+  sub-to-come c = omega (arith, c .before .before .before .before .before .loop-test .taken)
 
   to-come-requires : lts.Need-to-come-requires (cs t) (here t) keep.Post Inv μ-loop
   to-come-requires c κs = search needs
 
   loop-less : lts.Need-loop-less (cs t) (here t) keep.Post Inv μ-loop
   loop-less c =
-      let tu = c .before .before .before .before .before .before in
+      let tu = c .before .before .before in
       let lt = tu .before .before .before in
       let l = lt .before in
       omega (arith, lt .loop-test .taken, c .to-come .ensures, to-come-most (tu .turn-of .result .next) (l .loop .m - 1))
@@ -171,53 +165,52 @@ module _ (t : ℕ) where
   loop-again : lts.Need-loop-again (cs t) (here t) keep.Post Inv μ-loop
   loop-again c =
       let e = c .before in
-      let k = e .before .before .before in
-      let tu = k .before .before in
+      let j = e .before in
+      let tu = j .before in
       let to = tu .before in
       let ke = to .before in
       let lt = ke .before in
       let l = lt .before in
       taking-turns (l .loop .inv) (lt .loop-test .taken) (ke .keys-of .ensures .0) (to .total-of .ensures) (tu .turn-of .ensures)
-      (k .keep .kept .1 .1 .1 .1 .1 .1 .1 .1 .0) (k .keep .ensures) refl (e .end-of .ensures) (c .to-come .ensures)
+      (pick (j .if4 .came) (λ w. turned-on (w .5) (w .0 .taken) (w .2 .kept .1 .1 .1 .1 .1 .1 .1 .0) (w .2 .ensures))
+      (λ w. turned-off (w .1) (w .0 .left))) refl (e .end-of .ensures) (c .to-come .ensures)
 
   same-length-2 : lts.Need-same-length-2 (cs t) (here t) keep.Post Inv μ-loop
-  same-length-2 c = let a = c .before .before .before .before .before .before .before .args in length-set (a .out .now) (a .at .0) 1
+  same-length-2 c = let a = c .before .before .before .before .before .before .args in length-set (a .out .now) (a .at .0) 1
 
-  returns-3 : lts.Need-returns-3 (cs t) (here t) keep.Post Inv μ-loop
-  returns-3 c = set-alone (not-false _ (c .before .before .before .if1 .left)) (c .before .before .if2 .left) (c .before .kind-of .ensures) (c .if3 .taken)
+  returns-2 : lts.Need-returns-2 (cs t) (here t) keep.Post Inv μ-loop
+  returns-2 c = set-alone (c .before .before .if1 .left) (c .before .kind-of .ensures) (c .if2 .taken)
 
   same-length-3 : lts.Need-same-length-3 (cs t) (here t) keep.Post Inv μ-loop
   same-length-3 c = c .before .loop .inv .same-length
 
-  returns-4 : lts.Need-returns-4 (cs t) (here t) keep.Post Inv μ-loop
-  returns-4 c =
+  returns-3 : lts.Need-returns-3 (cs t) (here t) keep.Post Inv μ-loop
+  returns-3 c =
       let l = c .before in
       let e = l .before in
       let f = e .before in
       let sh = f .before in
-      let i3 = sh .before .before in
-      let k = i3 .before in
-      let i2 = k .before in
-      let i1 = i2 .before in
+      let i2 = sh .before .before in
+      let k = i2 .before in
+      let i1 = k .before in
       let s = i1 .before .before .before .before in
-      taking-ends (k .kind-of .ensures) (omega (arith, i3 .if3 .left)) (i2 .if2 .left) (s .pre .1) (not-false _ (i1 .if1 .left))
-      (sh .shares-of .ensures) (e .expressions-of .ensures) (f .first-of .ensures) (l .loop .inv) (c .loop-test .left)
+      taking-ends (k .kind-of .ensures) (omega (arith, i2 .if2 .left)) (i1 .if1 .left) (s .pre .1) (sh .shares-of .ensures)
+      (e .expressions-of .ensures) (f .first-of .ensures) (l .loop .inv) (c .loop-test .left)
 
-  returns-5 : lts.Need-returns-5 (cs t) (here t) keep.Post Inv μ-loop
-  returns-5 c =
+  returns-4 : lts.Need-returns-4 (cs t) (here t) keep.Post Inv μ-loop
+  returns-4 c =
       let k = c .before .before in
-      let s = k .before .before .before .before .before .before in
-      absurd (omega (arith, c .if4 .left, k .kind-of .ensures, row-known (s .pre .1 .walkable)))
+      let s = k .before .before .before .before .before in
+      absurd (omega (arith, c .if3 .left, k .kind-of .ensures, row-known (s .pre .1 .walkable)))
 
 pub +keep-spec : {M : Type 1} → statement M
 +keep-spec =
     close μ λ t.
     lts.spec (cs t) (here t) keep.Post Inv μ-loop
     (cast-i t)
-    (returns t)
     (slice-write-out t)
     (same-length t)
-    (returns-2 t)
+    (returns t)
     (kind-of-requires t)
     (slice-write-out-2 t)
     (shares-of-requires t)
@@ -236,7 +229,7 @@ pub +keep-spec : {M : Type 1} → statement M
     (loop-less t)
     (loop-again t)
     (same-length-2 t)
-    (returns-3 t)
+    (returns-2 t)
     (same-length-3 t)
+    (returns-3 t)
     (returns-4 t)
-    (returns-5 t)

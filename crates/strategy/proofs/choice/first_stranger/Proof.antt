@@ -9,9 +9,9 @@ use borrow.Author.Tests.{eq-eqb, ne-eqb}
 use borrow.Author.Count.{below-more}
 use borrow.Author.Needs.{needs}
 use Rattle.entries.proofs.First.{first-found, first-none}
-use Rattle.verdict.specs.Inside.Found.{isStranger}
-use Rattle.verdict.proofs.first_stranger.Statement.{statement}
-use Rattle.verdict.proofs.first_stranger.Tie as tie
+use Rattle.strategy.specs.Inside.Checks.{isStranger}
+use Rattle.strategy.proofs.choice.first_stranger.Statement.{statement}
+use Rattle.strategy.proofs.choice.first_stranger.Tie as tie
 
 abbrev Inv-loop : tie.InvT-loop
 Inv-loop rows chosen k₀ k = (k ≤ length chosen) × ((j : ℕ) → j < k → isStranger rows chosen j ≡ false)

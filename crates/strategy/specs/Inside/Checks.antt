@@ -8,8 +8,8 @@ use Rattle.paper.specs.Refusals.{tooMany}
 use Rattle.paper.specs.Limits.{mostTransitions}
 use Rattle.table.specs.declared.Layout.{Layout}
 use Rattle.rows.specs.Rows.{kindOf}
-use Rattle.verdict.specs.declared.Judged.{Judged}
-use Rattle.verdict.specs.Verdict.{acceptedWith, refusedAt}
+use Rattle.strategy.specs.declared.Judged.{Judged}
+use Rattle.strategy.specs.Verdict.{acceptedWith, refusedAt}
 
 -- 10: the k-th chosen label is no candidate
 abbrev pub isStranger : List ℕ → List ℕ → ℕ → Bool

@@ -2,9 +2,9 @@
 use mathlib.Core.Path.{ap, _∙_}
 use borrow.Author.Needs.{needs}
 use Rattle.keys.specs.Inside.Keys.{total}
-use Rattle.verdict.proofs.Answers.{counted-past, counted-fits}
-use Rattle.verdict.proofs.counted.Statement.{statement}
-use Rattle.verdict.proofs.counted.Tie as tie
+use Rattle.strategy.proofs.Verdicts.{counted-past, counted-fits}
+use Rattle.strategy.proofs.checks.counted.Statement.{statement}
+use Rattle.strategy.proofs.checks.counted.Tie as tie
 
 cast-n : tie.Need-cast-n
 cast-n c = search needs

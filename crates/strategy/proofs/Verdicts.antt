@@ -10,10 +10,10 @@ use Rattle.paper.specs.Limits.{mostTransitions}
 use Rattle.paper.specs.Judgement.{Judgement, accepted, refused}
 use Rattle.table.specs.declared.Layout.{Layout}
 use Rattle.table.specs.Table.{layout}
-use Rattle.verdict.specs.declared.Judged.{Judged}
-use Rattle.verdict.specs.declared.Judged.the-variants as answer
-use Rattle.verdict.specs.Verdict.{acceptedWith, refusedAt, asJudged}
-use Rattle.verdict.specs.Inside.Found.{countedAs}
+use Rattle.strategy.specs.declared.Judged.{Judged}
+use Rattle.strategy.specs.declared.Judged.the-variants as answer
+use Rattle.strategy.specs.Verdict.{acceptedWith, refusedAt, asJudged}
+use Rattle.strategy.specs.Inside.Checks.{countedAs}
 
 abbrev layoutIn : Judged → Layout
 layoutIn (answer.Accepted a) = a .layout

@@ -8,7 +8,7 @@ use Rattle.rows.specs.Rows.{kindOf, argOf, fromOf}
 use Rattle.net.specs.Inside.Net.{Chosen, Net}
 
 -- Chosen labels of nested rows with their net, and stars whose reads are there and are variables.
-pub record Ready (rows reads chosen net : List ℕ) (#N : ℕ) : Type 0 where
+pub record Followable (rows reads chosen net : List ℕ) (#N : ℕ) : Type 0 where
   pub choice : Chosen rows chosen #N
   pub netted : Net rows chosen #N net
   pub read : (s : ℕ) → s < #N → kindOf rows s ≡ 1 → fromOf rows s + argOf rows s ≤ length reads

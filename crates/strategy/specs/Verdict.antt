@@ -4,8 +4,8 @@ use Prim.Native.Nat.{ℕ}
 use Rattle.paper.specs.Refusals.{refusal}
 use Rattle.paper.specs.Judgement.{Judgement, accepted, refused}
 use Rattle.table.specs.declared.Layout.{Layout}
-use Rattle.verdict.specs.declared.Judged.{Judged}
-use Rattle.verdict.specs.declared.Judged.the-variants as answer
+use Rattle.strategy.specs.declared.Judged.{Judged}
+use Rattle.strategy.specs.declared.Judged.the-variants as answer
 
 -- an acceptance, and a refusal, as answers
 abbrev pub acceptedWith : Layout → ℕ → Judged
