@@ -7,6 +7,7 @@ use mathlib.Core.Bool.{not}
 use mathlib.Core.List.{List}
 use lib.ListN.{length, take, drop, length-map, length-append}
 use lib.Seq.{take-at, length-take-le, length-front}
+use Rattle.paper.specs.Limits.{mostTransitions, slots}
 use Rattle.paper.specs.Formula.{ℓ, isCandidate}
 use Rattle.paper.specs.Strategy.{Strategy}
 use Rattle.paper.specs.Transition.{keys}
@@ -51,11 +52,11 @@ module _ (words : List ℕ) (a : Accepted) (e : judgedOf words ≡ judged.Accept
   pub count-is : a .transitions ≡ length (keys (formulaIn words (a .layout)) (proposalIn words (a .layout)))
   count-is = known .count
 
-  pub few-transitions : a .transitions ≤ 65535
+  pub few-transitions : a .transitions ≤ mostTransitions
   few-transitions = omega (arith, known .count, known .few)
 
   -- a candidate takes two rows
-  pub few-chosen : a .layout .chosen ≤ 2048
+  pub few-chosen : a .layout .chosen ≤ slots
   few-chosen =
       let p = parts-of words (a .layout) is-sound in
       let f = formulaIn words (a .layout) in
@@ -99,14 +100,14 @@ module _ (words order₀ order : List ℕ) (a : Accepted) (e : judgedOf words �
   }
 
   -- it is all there
-  pub all-in-front : (a .layout .chosen ≤ length order) × (a .layout .chosen ≤ 2048)
+  pub all-in-front : (a .layout .chosen ≤ length order) × (a .layout .chosen ≤ slots)
   all-in-front = (
     omega (arith, many, ap length stands, length-append (orderIn words (a .layout)) (drop (length (orderIn words (a .layout))) order₀)),
     few-chosen words a e,
   )
 
   -- and the words are as many as they were
-  pub front-as-long : length order₀ ≡ 2048 → length order ≡ 2048
+  pub front-as-long : length order₀ ≡ slots → length order ≡ slots
   front-as-long n =
       let o = orderIn words (a .layout) in
       let m = many in
@@ -122,13 +123,13 @@ module _ (words order₀ order : List ℕ) (j : Judged) (i : JudgedInto words or
   unfolding orderLeft
   stands-so = i .left-so ∙ ap (λ r. leftBy r (orderIn words) order₀) accepts
 
-  pub order-there : (a .layout .chosen ≤ length order) × (a .layout .chosen ≤ 2048)
+  pub order-there : (a .layout .chosen ≤ length order) × (a .layout .chosen ≤ slots)
   order-there = all-in-front words order₀ order a accepts stands-so
 
   pub order-stands : Ordered words a order
   order-stands = order-in-front words order₀ order a accepts stands-so
 
-  pub order-as-long : length order₀ ≡ 2048 → length order ≡ 2048
+  pub order-as-long : length order₀ ≡ slots → length order ≡ slots
   order-as-long = front-as-long words order₀ order a accepts stands-so
 
   pub order-filled : {lent left : List ℕ} {r : Filled} → Fills (unlessShort (length lent) (take (a .layout .chosen) order)) lent left r

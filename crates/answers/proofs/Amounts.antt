@@ -7,6 +7,7 @@ use mathlib.Core.List.{List, map}
 use lib.Dec.{eqb, ltb, leb}
 use lib.ListN.{length, length-map}
 use borrow.Author.Tests.{leb-false}
+use Rattle.paper.specs.Limits.{mostRows}
 use Rattle.paper.specs.Refusals.{refusal}
 use Rattle.paper.specs.declared.Label.{Label}
 use Rattle.table.specs.declared.Layout.{Layout}
@@ -23,7 +24,7 @@ use Rattle.answers.proofs.Accepted.{is-understood}
 use Rattle.answers.proofs.Keeping.{amounts}
 
 -- what is filled is as long as what is asked for
-fit-short : (room : ℕ) (ws : List ℕ) → length ws ≤ 4096 → FitFilled (filledOf (unlessShort room ws))
+fit-short : (room : ℕ) (ws : List ℕ) → length ws ≤ mostRows → FitFilled (filledOf (unlessShort room ws))
 fit-short room ws h = go (ltb room (length ws))
   where
     go : (t : Bool) → FitFilled (filledOf (cond t (refuses (refusal 16 (length ws))) (fills ws)))

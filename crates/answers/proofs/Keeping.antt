@@ -7,6 +7,7 @@ use mathlib.Core.Bool.{true}
 use mathlib.Core.List.{List, _++_, map, Memᴰ·map}
 use lib.ListN.{length, getD, take, drop, length-map, length-append, length-take}
 use lib.Seq.{take-at, getD-take, length-take-le}
+use Rattle.paper.specs.Limits.{mostDepth, mostRows, slots}
 use Rattle.paper.specs.declared.Label.{Label}
 use Rattle.paper.specs.Lists.{those}
 use Rattle.paper.specs.Formula.{ℓ, has, Formula}
@@ -70,7 +71,7 @@ module _ (words : List ℕ) (a : Accepted) (e : AcceptedAs words a) where
   pub parts-reached : Reached words l (is-sound words a e)
   parts-reached = reached words l (is-sound words a e)
 
-  pub rows-fit : l .rows ≤ 4096
+  pub rows-fit : l .rows ≤ mostRows
   rows-fit = u .most-rows
 
   -- the parts as they are lent, each from its first word on
@@ -98,7 +99,7 @@ module _ (words : List ℕ) (a : Accepted) (e : AcceptedAs words a) where
   lent-walkable = rw rows-lent (walkable (parts-of words l (is-sound words a e)))
 
   -- what the transitions are worked out from
-  pub based-so : {basis : Basis} → MarkedExactly (map ℓ lentChosen) (basis .marks) → basis .own ≡ keysAt lentRows (basis .marks) 64 0
+  pub based-so : {basis : Basis} → MarkedExactly (map ℓ lentChosen) (basis .marks) → basis .own ≡ keysAt lentRows (basis .marks) mostDepth 0
       → BasedExactly words l basis
   based-so {basis} m n = record { marked = subst (λ ws. MarkedExactly (map ℓ ws) (basis .marks)) chosen-lent m; own-are = rw rows-lent at n }
 
@@ -120,7 +121,7 @@ module _ (words : List ℕ) (a : Accepted) (e : AcceptedAs words a) where
         let s = is-strategy words a e in
         transition-says (l .variables) f A (u .well-formed) (s .homogeneous) (s .minimal) (u .within .chosen-ascend) k among
 
-    pub keepable : {marks out : List ℕ} {own : Distinct} → Based words l marks own → length out ≡ 4096 → Keepable lentRows marks out (l .rows) 0 64 own k
+    pub keepable : {marks out : List ℕ} {own : Distinct} → Based words l marks own → length out ≡ mostRows → Keepable lentRows marks out (l .rows) 0 mostDepth own k
     keepable {marks} {out} {own} b room =
         let s = is-strategy words a e in
         rw rows-lent
@@ -158,7 +159,7 @@ module _ (words : List ℕ) (a : Accepted) (e : AcceptedAs words a) where
       pub front-is : take (l .rows) left ≡ keptMarks words l k
       front-is = ap (take (l .rows)) stands ∙ take-at (keptMarks words l k) (drop (length (keptMarks words l k)) lent) (l .rows) (marks-length k)
 
-      pub front-there : (l .rows ≤ length left) × (l .rows ≤ 4096)
+      pub front-there : (l .rows ≤ length left) × (l .rows ≤ mostRows)
       front-there =
           (omega (arith, marks-length k, ap length stands, length-append (keptMarks words l k) (drop (length (keptMarks words l k)) lent)), u .most-rows)
 
@@ -191,7 +192,7 @@ module _ (words : List ℕ) (a : Accepted) (e : AcceptedAs words a) where
             let placed-one = subst (λ ls. has ls x ≡ true) placed-labels (mem-has (Memᴰ·map ℓ (word-mem placed j i))) in
             subst (λ n. getD placed j 0 < n) (u .size-is) (u .within .chosen-below x (has-mem A x (is-order .from x placed-one)))
 
-        pub fillable : (labels : List ℕ) → length labels ≡ 2048 → Fillable order (l .chosen) (take (l .rows) left) labels
+        pub fillable : (labels : List ℕ) → length labels ≡ slots → Fillable order (l .chosen) (take (l .rows) left) labels
         fillable labels room = record {
           there = omega (arith, placed-length, length-take (l .chosen) order);
           below = λ j i. let b = rw getD-take at (placed-below j (omega (arith, placed-length))) in omega (arith, front-length);
@@ -226,7 +227,7 @@ module _ (words : List ℕ) (a : Accepted) (e : AcceptedAs words a) where
       pub assigned-as-key : n ≡ length (keyOf words l k)
       assigned-as-key = assigned-many ∙ sym (says .key-has)
 
-      pub assigned-there : (n ≤ length labels′) × (n ≤ 2048)
+      pub assigned-there : (n ≤ length labels′) × (n ≤ slots)
       assigned-there = (
         omega (arith, p .many, ap length (p .in-order), length-append (assignedOf words l k) (drop (length (assignedOf words l k)) labels)),
         omega (arith, assigned-many, u .most-variables),

@@ -13,6 +13,7 @@ use lib.Dec.{eqb}
 use lib.Bits.{bitAnd, bitOr}
 use borrow.Author.Count.{below-more}
 use borrow.Author.Tests.{eq-eqb, ne-eqb, eqb-true, eqb-false, lt-ltb, le-ltb, not-true}
+use Rattle.paper.specs.Limits.{mostRows}
 use Rattle.paper.specs.declared.Label.{Label}
 use Rattle.paper.specs.declared.Variable.{Variable}
 use Rattle.paper.specs.Lists.{those}
@@ -86,15 +87,15 @@ module _ (b : ℕ) (h : b < 64) where
 
   -- bit b of a block's masks is the cover of variable 64 * block + b
   module _ {A : List Label} {marks : List ℕ} (marked : Marked A marks) (block : ℕ) where
-    chosen-bit : (l : Label) (v : Variable) → l .0 < 4096 → bitAt (maskOf marks block (l .0) (v .0)) b ≡ (has A l && alike (𝓋 (64 * block + b)) v)
+    chosen-bit : (l : Label) (v : Variable) → l .0 < mostRows → bitAt (maskOf marks block (l .0) (v .0)) b ≡ (has A l && alike (𝓋 (64 * block + b)) v)
     chosen-bit l v g = rw (← marked .marks-are (l .0) g) (mask-bit marks block (l .0) (v .0))
 
-    pub at-masks : (f : Formula) → ((l : Label) → List·Memᴰ l (labels f) → l .0 < 4096)
+    pub at-masks : (f : Formula) → ((l : Label) → List·Memᴰ l (labels f) → l .0 < mostRows)
         → coverAt b (foldOf (masksFold marks block) f) ≡ coverOf A (𝓋 (64 * block + b)) f
     at-masks f few =
         carried (masksFold marks block) (coverFold A (𝓋 (64 * block + b))) (coverAt b) at-unit at-join f
         (leaves-map (λ l g. at-leaf _ (zero-bit b)) (λ l g. at-leaf _ (zero-bit b))
-        (λ l v g. at-leaf _ (chosen-bit l v g)) f (leaves-labelled (λ l. l .0 < 4096) f few))
+        (λ l v g. at-leaf _ (chosen-bit l v g)) f (leaves-labelled (λ l. l .0 < mostRows) f few))
 
 -- the lowest of the variables below n that pass a test, beside the list of them
 module _ (p : Variable → Bool) where
@@ -156,14 +157,14 @@ refuse-by (x ∷ xs) ys next = refl
 
 -- Rows that write a formula whose labels have marks, and the marks of A: bit b of a block's masks is the cover of its variable.
 pub masks-say : (rows reads : List ℕ) (left i : ℕ) {f : Formula} → f ≡ formulaAt rows reads left i → {A : List Label} {marks : List ℕ}
-    → Marked A marks → ((l : Label) → List·Memᴰ l (labels f) → l .0 < 4096) → (block b : ℕ) → b < 64
+    → Marked A marks → ((l : Label) → List·Memᴰ l (labels f) → l .0 < mostRows) → (block b : ℕ) → b < 64
     → coverAt b (masksAt rows marks block left i) ≡ coverOf A (𝓋 (64 * block + b)) f
 masks-say rows reads left i {f} written {A} {marks} marked few block b h =
     ap (coverAt b) (sym (value-read (masksFold marks block) rows reads left i) ∙ ap (foldOf (masksFold marks block)) (sym written))
     ∙ at-masks b h marked block f few
 
 module _ (rows reads : List ℕ) {f : Formula} (written : f ≡ formulaAt rows reads 64 0) {A : List Label} {marks : List ℕ} (marked : Marked A marks)
-    (few : (l : Label) → List·Memᴰ l (labels f) → l .0 < 4096) where
+    (few : (l : Label) → List·Memᴰ l (labels f) → l .0 < mostRows) where
   cover-of : (v : ℕ) → coverAt (v % 64) (masksAt rows marks (v / 64) 64 0) ≡ coverOf A (𝓋 v) f
   cover-of v =
       let e : 64 * (v / 64) + v % 64 ≡ v = omega (arith, div-add-mod' v 64) in

@@ -124,15 +124,15 @@ empty g mark stack bound finger len top at P h =
     no-at = omega (arith, P .upto)
 
 pub empty-first : (g : Graph) (finger : List ℕ) → g .size < slots → Started g finger
-    → Walked g (replicate 2048 0) (replicate 2048 0) (replicate 2048 0) finger 0 0 0
+    → Walked g (replicate slots 0) (replicate slots 0) (replicate slots 0) finger 0 0 0
 empty-first g finger h s = record {
   small = h;
-  marks = length-replicate {A = ℕ} 2048 0;
-  stacks = length-replicate {A = ℕ} 2048 0;
-  bounds = length-replicate {A = ℕ} 2048 0;
+  marks = length-replicate {A = ℕ} slots 0;
+  stacks = length-replicate {A = ℕ} slots 0;
+  bounds = length-replicate {A = ℕ} slots 0;
   fingers = s .size;
   on = λ p hp. absurd (omega arith);
-  off = λ i hi p e. absurd (omega (arith, getD-replicate {A = ℕ} 2048 i 0 0 (omega arith)));
+  off = λ i hi p e. absurd (omega (arith, getD-replicate {A = ℕ} slots i 0 0 (omega arith)));
   room = few;
   some = λ l. l;
   first = refl;
@@ -143,14 +143,14 @@ empty-first g finger h s = record {
   within = s .within;
   fresh = λ j hj e. s .clear j hj;
   passed = λ p hp i hi t e d. absurd (omega arith);
-  closed = λ j hj e i hi r. absurd (omega (arith, getD-replicate {A = ℕ} 2048 j 0 0 (omega arith)));
+  closed = λ j hj e i hi r. absurd (omega (arith, getD-replicate {A = ℕ} slots j 0 0 (omega arith)));
   upto = omega arith;
   high = λ k hk. absurd (omega arith);
   spent = λ p hp hl. absurd (omega arith);
 }
   where
-    few : 0 + length (leftOf (g .size) (replicate 2048 0)) ≤ g .size
-    few = left-few (g .size) (replicate 2048 0)
+    few : 0 + length (leftOf (g .size) (replicate slots 0)) ≤ g .size
+    few = left-few (g .size) (replicate slots 0)
 
 -- the walk from a new root begins, and ends
 module _ (g : Graph) (root : ℕ) (mark stack bound finger : List ℕ) (P : Walked g mark stack bound finger 0 0 0) (h : root < g .size) where
@@ -178,12 +178,12 @@ module _ (g : Graph) (root : ℕ) (mark stack bound finger : List ℕ) (P : Walk
   explore-not best B d = record { path = P; best-so-far = B; grown = λ i hi e. e; taken = ne-eqb (getD mark root 0) 0 d }
 
 -- at the start, best is the lowest index that is before itself
-pub best-start : (g : Graph) (r : ℕ) → g .size < slots → Selfless g r → Best g (replicate 2048 0) r
+pub best-start : (g : Graph) (r : ℕ) → g .size < slots → Selfless g r → Best g (replicate slots 0) r
 best-start g r h s = record {
   to = s .to;
   cyclic = λ l. self-ring g r (s .hit l);
   self = λ i hi e. by-lt i r (λ l. never (g .before i i) e (s .none i l)) (λ l. l);
-  least = λ i hi e y. absurd (omega (arith, getD-replicate {A = ℕ} 2048 i 0 0 (omega arith)));
+  least = λ i hi e y. absurd (omega (arith, getD-replicate {A = ℕ} slots i 0 0 (omega arith)));
 }
 
 -- when none is new, best is the lowest index on a cycle

@@ -5,6 +5,7 @@ use native.Mathlib.Omega.{arith}
 use mathlib.Core.Path.{_≡_, refl, sym, ap, subst, _∙_}
 use mathlib.Core.List.{List}
 use lib.ListN.{length, length-map}
+use Rattle.paper.specs.Limits.{mostTransitions}
 use Rattle.paper.specs.Formula.{ℓ}
 use Rattle.paper.specs.Strategy.{Strategy}
 use Rattle.paper.specs.Transition.{keys}
@@ -83,7 +84,7 @@ accepts words t h =
       sound = sound;
       strategy = subst (λ (u : Table). Strategy (length (t .names)) (u .formula) (u .strategy)) (sym read) (h .strategy);
       count = refl;
-      few = subst (λ (u : Table). length (keys (u .formula) (u .strategy)) ≤ 65535) (sym read) (h .few);
+      few = subst (λ (u : Table). length (keys (u .formula) (u .strategy)) ≤ mostTransitions) (sym read) (h .few);
     } in (_, accepted-exactly words (layoutOf t) _ .1 so)
 
 pub judged-exactly : (words : List ℕ) (r : ℕ) → AnswerPacked (judgeOf words) r → JudgedExactly words r

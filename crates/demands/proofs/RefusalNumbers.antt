@@ -10,7 +10,7 @@ use Rattle.paper.specs.declared.Refusal.{Refusal}
 use Rattle.paper.specs.Refusals.{refusal}
 use Rattle.paper.specs.declared.Label.{Label}
 use Rattle.paper.specs.Formula.{Formula, labels}
-use Rattle.paper.specs.Limits.{mostTransitions}
+use Rattle.paper.specs.Limits.{mostTransitions, mostChosen, mostReads, mostRows, mostVariables}
 use Rattle.paper.specs.Judgement.{Judgement, accepted, refused, refuse, strangers, missed, doubled, onCycles, judge}
 use Rattle.paper.specs.Transition.{keys}
 use Rattle.entries.specs.First.{first}
@@ -55,24 +55,24 @@ open-gives part c low high width =
 
 variables-give : (part : List ℕ) (c : Cursor) → StepGives (variablesAt part c)
 unfolding variablesAt
-variables-give part c = gives-then (openAt part c 1 1024 1) _ (open-gives part c 1 1024 1) (λ d.
+variables-give part c = gives-then (openAt part c 1 mostVariables 1) _ (open-gives part c 1 mostVariables 1) (λ d.
     check (ltb (first (falls (drop 1 part)) (d .count)) (d .count)) 4 _ _ (omega arith, omega arith) tt)
 
 reads-give : (part : List ℕ) (c : Cursor) → StepGives (readsAt part c)
 unfolding readsAt
-reads-give part c = gives-then (openAt part c 0 8192 1) _ (open-gives part c 0 8192 1) (λ d.
+reads-give part c = gives-then (openAt part c 0 mostReads 1) _ (open-gives part c 0 mostReads 1) (λ d.
     check (ltb (first (beyond (drop 1 part) (c .variables)) (d .count)) (d .count)) 5 _ _ (omega arith, omega arith) tt)
 
 rows-give : (part reads : List ℕ) (c : Cursor) → StepGives (rowsAt part reads c)
 unfolding rowsAt
-rows-give part reads c = gives-then (openAt part c 1 4096 4) _ (open-gives part c 1 4096 4) (λ d.
+rows-give part reads c = gives-then (openAt part c 1 mostRows 4) _ (open-gives part c 1 mostRows 4) (λ d.
     check (ltb (first (breaksRules (drop 1 part) reads (c .variables) (d .count)) (d .count)) (d .count)) 6 _ _ (omega arith, omega arith)
     (check (ltb (takenBefore (drop 1 part) (d .count)) (c .reads)) 7 _ _ (omega arith, omega arith)
     (check (ltb (first (isDeep (drop 1 part)) (d .count)) (d .count)) 8 _ _ (omega arith, omega arith) tt)))
 
 strategy-gives : (part : List ℕ) (c : Cursor) → StepGives (strategyAt part c)
 unfolding strategyAt
-strategy-gives part c = gives-then (openAt part c 0 4096 1) _ (open-gives part c 0 4096 1) (λ d.
+strategy-gives part c = gives-then (openAt part c 0 mostChosen 1) _ (open-gives part c 0 mostChosen 1) (λ d.
     check (ltb (first (λ k. beyond (drop 1 part) (c .rows) k || falls (drop 1 part) k) (d .count)) (d .count)) 9 _ _ (omega arith, omega arith) tt)
 
 end-gives : (present : ℕ) (c : Cursor) → StepGives (endAt present c)

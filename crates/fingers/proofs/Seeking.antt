@@ -8,7 +8,7 @@ use lib.Dec.{eqb, ltb}
 use lib.ListN.{length, getD, set, length-set}
 use lib.Seq.{getD-set-other}
 use borrow.Author.Tests.{ne-eqb, lt-ltb, le-ltb, ltb-true, not-true, not-false}
-use Rattle.paper.specs.Limits.{slots}
+use Rattle.paper.specs.Limits.{slots, mostReads}
 use Rattle.paper.proofs.Bools.{both, and-left, and-right, not-so}
 use Rattle.rows.specs.Rows.{kindOf, fromOf}
 use Rattle.net.specs.Inside.Prior.{isFrozen, variableOf, prior}
@@ -145,7 +145,7 @@ module _ (rows reads chosen : List ℕ) (#N : ℕ) where
     pub own-star : kindOf rows own ≡ 1
     own-star = ready .choice .tree .starred (getD chosen j 0) (let z = own-in in omega arith) (ready .choice .candidates j hj)
 
-    pub from-in : fromOf rows own ≤ 8192
+    pub from-in : fromOf rows own ≤ mostReads
     from-in = let z = ready .read own own-in own-star in omega (arith, ready .few)
 
     -- what lies from it on is what is frozen at j

@@ -10,6 +10,7 @@ use mathlib.Core.Bool.{Bool, true, false, cond, _&&_, _||_}
 use mathlib.Core.List.{List}
 use lib.Dec.{ltb}
 use borrow.Author.Tests.{lt-ltb}
+use Rattle.paper.specs.Limits.{mostTransitions}
 use Rattle.paper.specs.declared.Label.{Label}
 use Rattle.paper.specs.Formula.{ℓ, has}
 use Rattle.paper.specs.Structure.Fold.{Fold}
@@ -95,16 +96,16 @@ held-leaves true = refl
 held-leaves false = refl
 
 -- a number within the limit is held as it is, and held above it where it is above
-pub held-within : (c : KeyCount) → number c ≤ 65535 → total (held c) ≡ number c
+pub held-within : (c : KeyCount) → number c ≤ mostTransitions → total (held c) ≡ number c
 held-within c h = pick (held-at (c .more)) (λ same. omega arith) (λ top. absurd (omega arith))
 
-pub held-exact : (c : KeyCount) → total (held c) ≤ 65535 → total (held c) ≡ number c
+pub held-exact : (c : KeyCount) → total (held c) ≤ mostTransitions → total (held c) ≡ number c
 held-exact c h = pick (held-at (c .more)) (λ same. omega arith) (λ top. absurd (omega arith))
 
-held-past : (c : KeyCount) → ltb 65535 (total (held c)) ≡ ltb 65535 (number c)
+held-past : (c : KeyCount) → ltb mostTransitions (total (held c)) ≡ ltb mostTransitions (number c)
 held-past c =
-    pick (held-at (c .more)) (λ same. ap (λ n. ltb 65535 (n + cond (c .empty) 1 0)) same)
-    (λ top. lt-ltb 65535 (total (held c)) (omega arith) ∙ sym (lt-ltb 65535 (number c) (omega arith)))
+    pick (held-at (c .more)) (λ same. ap (λ n. ltb mostTransitions (n + cond (c .empty) 1 0)) same)
+    (λ top. lt-ltb mostTransitions (total (held c)) (omega arith) ∙ sym (lt-ltb mostTransitions (number c) (omega arith)))
 
 -- The count of keys that marks choose, without a limit.
 abbrev pub countFold : List ℕ → Fold KeyCount
@@ -139,13 +140,13 @@ module _ (rows marks : List ℕ) (left i : ℕ) where
     pub keys-are : keysAt rows marks left i ≡ held (keyCountOf A (formulaAt rows reads left i))
     keys-are = keys-held ∙ ap held count-chosen
 
-    pub keys-past-limit : ltb 65535 (total (keysAt rows marks left i)) ≡ ltb 65535 (numberOf A (formulaAt rows reads left i))
-    keys-past-limit = ap (λ k. ltb 65535 (total k)) keys-are ∙ held-past (keyCountOf A (formulaAt rows reads left i))
+    pub keys-past-limit : ltb mostTransitions (total (keysAt rows marks left i)) ≡ ltb mostTransitions (numberOf A (formulaAt rows reads left i))
+    keys-past-limit = ap (λ k. ltb mostTransitions (total k)) keys-are ∙ held-past (keyCountOf A (formulaAt rows reads left i))
 
-    pub keys-number : total (keysAt rows marks left i) ≤ 65535 → total (keysAt rows marks left i) ≡ numberOf A (formulaAt rows reads left i)
-    keys-number h = ap total keys-are ∙ held-exact (keyCountOf A (formulaAt rows reads left i)) (subst (λ k. total k ≤ 65535) keys-are h)
+    pub keys-number : total (keysAt rows marks left i) ≤ mostTransitions → total (keysAt rows marks left i) ≡ numberOf A (formulaAt rows reads left i)
+    keys-number h = ap total keys-are ∙ held-exact (keyCountOf A (formulaAt rows reads left i)) (subst (λ k. total k ≤ mostTransitions) keys-are h)
 
-    pub keys-number-within : numberOf A (formulaAt rows reads left i) ≤ 65535 → total (keysAt rows marks left i) ≡ numberOf A (formulaAt rows reads left i)
+    pub keys-number-within : numberOf A (formulaAt rows reads left i) ≤ mostTransitions → total (keysAt rows marks left i) ≡ numberOf A (formulaAt rows reads left i)
     keys-number-within h = ap total keys-are ∙ held-within (keyCountOf A (formulaAt rows reads left i)) h
 
     pub keys-empty : keysAt rows marks left i .empty ≡ keyCountOf A (formulaAt rows reads left i) .empty

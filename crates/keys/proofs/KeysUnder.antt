@@ -9,6 +9,7 @@ use mathlib.Core.Bool.{Bool, true, false, cond, _&&_, _||_}
 use mathlib.Core.List.{List, [], _∷_}
 use lib.Dec.{eqb}
 use borrow.Author.Tests.{eq-eqb, ne-eqb}
+use Rattle.paper.specs.Limits.{mostTransitions}
 use Rattle.paper.specs.Structure.KeyCount.{KeyCount, number, unitKeys as unitCount, joinKeys as joinCounts}
 use Rattle.paper.proofs.KeyCounts.{number-of-both, number-of-either, joinKeys-unit}
 use Rattle.rows.specs.Rows.{kindOf, endOf, formOf}
@@ -126,7 +127,7 @@ module _ (rows marks : List ℕ) (left : ℕ) where
   joined-one m i e = rw e (ap number (joinKeys-unit false (countAt rows marks left i)) ∙ sym (mul-one (number (countAt rows marks left i))))
 
   -- numbers within the limit are counted as they are
-  totals-are-counts : (m i : ℕ) → AllWithin 65535 (countsFrom m i) → totalsFrom rows marks left m i ≡ countsFrom m i
+  totals-are-counts : (m i : ℕ) → AllWithin mostTransitions (countsFrom m i) → totalsFrom rows marks left m i ≡ countsFrom m i
   unfolding numbersFrom
   totals-are-counts zero i a = refl
   totals-are-counts (suc m) i a =
@@ -134,7 +135,7 @@ module _ (rows marks : List ℕ) (left : ℕ) where
 
 -- the expressions under row i, the number of whose keys is within the limit
 module _ {rows : List ℕ} {#N i : ℕ} (marks : List ℕ) (left : ℕ) (w : Walkable rows #N i) (deep : left ≡ 0 → ⊥) (join : 2 < kindOf rows i)
-    (few : total (keysAt rows marks left i) ≤ 65535) where
+    (few : total (keysAt rows marks left i) ≤ mostTransitions) where
   abbrev totalsUnder : List ℕ
   totalsUnder = totalsFrom rows marks (left - 1) (expressionsAt rows i) (firstAt rows i)
 
@@ -142,7 +143,7 @@ module _ {rows : List ℕ} {#N i : ℕ} (marks : List ℕ) (left : ℕ) (w : Wal
   countsUnder = countsFrom rows marks (left - 1) (expressionsAt rows i) (firstAt rows i)
 
   number-here : number (countAt rows marks left i) ≡ total (keysAt rows marks left i)
-  number-here = let e = keys-held rows marks left i in sym (ap total e ∙ held-exact (countAt rows marks left i) (subst (λ k. total k ≤ 65535) e few))
+  number-here = let e = keys-held rows marks left i in sym (ap total e ∙ held-exact (countAt rows marks left i) (subst (λ k. total k ≤ mostTransitions) e few))
 
   joined-here : (c : Bool) → eqb (kindOf rows i) 3 ≡ c
       → countAt rows marks left i ≡ joinedCount rows marks (left - 1) c (unitCount c) (expressionsAt rows i) (firstAt rows i)
@@ -164,7 +165,7 @@ module _ {rows : List ℕ} {#N i : ℕ} (marks : List ℕ) (left : ℕ) (w : Wal
 
   -- Any other join: each number is within the limit, and where the empty key is not among them they add up.
   module _ (kind : kindOf rows i ≡ 3 → ⊥) where
-    counts-within : AllWithin 65535 countsUnder
+    counts-within : AllWithin mostTransitions countsUnder
     counts-within =
         within-more countsUnder (omega (arith, number-here, ap number (joined-here false (ne-eqb (kindOf rows i) 3 kind))))
         (joined-has-each rows marks (left - 1) (unitCount false) (expressionsAt rows i) (firstAt rows i))
@@ -172,7 +173,7 @@ module _ {rows : List ℕ} {#N i : ℕ} (marks : List ℕ) (left : ℕ) (w : Wal
     other-counts : totalsUnder ≡ countsUnder
     other-counts = totals-are-counts rows marks (left - 1) (expressionsAt rows i) (firstAt rows i) counts-within
 
-    pub keys-within : AllWithin 65535 totalsUnder
+    pub keys-within : AllWithin mostTransitions totalsUnder
     keys-within = rw other-counts counts-within
 
     pub keys-add : keysAt rows marks left i .empty ≡ false → total (keysAt rows marks left i) ≡ sumOf totalsUnder

@@ -7,6 +7,7 @@ use mathlib.Core.Bool.{Bool, true, false, cond}
 use mathlib.Core.List.{List}
 use lib.ListN.{length, take, length-map, length-take}
 use lib.Seq.{length-take-le}
+use Rattle.paper.specs.Limits.{slots}
 use Rattle.paper.specs.declared.Refusal.{Refusal}
 use Rattle.entries.specs.Front.{inFront}
 use Rattle.strategy.specs.declared.Accepted.{Accepted}
@@ -47,11 +48,11 @@ module _ {bytes order₀ order : List ℕ} {r : Judged} (j : JudgedBytes bytes o
         rw are (order-in-front (wordsOf bytes) order₀ order a (accepted-words a accepts) (stands a accepts));
   }
 
-  pub order-long : length order₀ ≡ 2048 → length order ≡ 2048
+  pub order-long : length order₀ ≡ slots → length order ≡ slots
   unfolding orderLeftOf
   order-long n = go (judgedBytes bytes) refl
     where
-      go : (i : Judged) → judgedBytes bytes ≡ i → length order ≡ 2048
+      go : (i : Judged) → judgedBytes bytes ≡ i → length order ≡ slots
       go (judged.Refused x) e = ap length (j .left-so ∙ ap (λ r. leftBy r (orderIn (wordsOf bytes)) order₀) e) ∙ n
       go (judged.Accepted a) e = front-as-long (wordsOf bytes) order₀ order a (accepted-words a e) (stands a e) n
 
@@ -84,6 +85,6 @@ pub line-room : (words : List ℕ) (a : Accepted) → AcceptedAs words a → (ro
 line-room words a e room n = let u = is-understood words a e in omega (arith, u .most-variables, u .most-rows)
 
 -- there is room for the second line behind the first
-pub order-fits : (order : List ℕ) (chosen at room : ℕ) → chosen ≤ length order → chosen ≤ 2048 → at ≤ 53 → room ≡ 65536
+pub order-fits : (order : List ℕ) (chosen at room : ℕ) → chosen ≤ length order → chosen ≤ slots → at ≤ 53 → room ≡ 65536
     → at + (6 + 6 * length (take chosen order)) ≤ room
 order-fits order chosen at room there few low n = let m = length-take-le chosen order there in omega arith

@@ -9,14 +9,15 @@ use lib.Dec.{eqb}
 use lib.ListN.{length, getD, take, set, replicate, length-set, length-replicate, getD-replicate}
 use lib.Seq.{take-suc, getD-set-same, getD-set-other}
 use borrow.Author.Tests.{eqb-true, eqb-false}
+use Rattle.paper.specs.Limits.{mostRows}
 use Rattle.paper.specs.Formula.{ℓ}
 use Rattle.paper.proofs.Lists.{any-append}
 use Rattle.marks.specs.Marks.{isMarked}
 use Rattle.marks.specs.Inside.Chosen.{Marked, AllBelow}
 
-pub marked-none : Marked [] (replicate 4096 0)
+pub marked-none : Marked [] (replicate mostRows 0)
 unfolding isMarked
-marked-none = record { size = length-replicate {A = ℕ} 4096 0; marks-are = λ l h. rw (getD-replicate {A = ℕ} 4096 l 0 0 h) }
+marked-none = record { size = length-replicate {A = ℕ} mostRows 0; marks-are = λ l h. rw (getD-replicate {A = ℕ} mostRows l 0 0 h) }
 
 -- a mark more, at label i
 mark-more : (marks : List ℕ) (i l : ℕ) → i < length marks → isMarked (set marks i 1) l ≡ (isMarked marks l || eqb l i)
@@ -27,7 +28,7 @@ mark-more marks i l h = by (eqb l i) refl
     by true e = rw (eqb-true l i e, getD-set-same marks i 1 0 h) (sym (or-true (eqb (getD marks i 0) 1)))
     by false e = rw (getD-set-other marks i l 1 0 (eqb-false l i e)) (sym (or-false (eqb (getD marks l 0) 1)))
 
-pub marked-more : (chosen : List ℕ) {marks : List ℕ} (k : ℕ) → Marked (map ℓ (take k chosen)) marks → k < length chosen → getD chosen k 0 < 4096
+pub marked-more : (chosen : List ℕ) {marks : List ℕ} (k : ℕ) → Marked (map ℓ (take k chosen)) marks → k < length chosen → getD chosen k 0 < mostRows
     → Marked (map ℓ (take (k + 1) chosen)) (set marks (getD chosen k 0) 1)
 marked-more chosen {marks} k m h below = record {
   size = length-set marks (getD chosen k 0) 1 ∙ m .size;
@@ -37,10 +38,10 @@ marked-more chosen {marks} k m h below = record {
 }
 
 -- the bytes are 0 and 1
-pub bits-none : AllBelow 2 (replicate 4096 0)
+pub bits-none : AllBelow 2 (replicate mostRows 0)
 bits-none l h =
-    let size = length-replicate {A = ℕ} 4096 0 in
-    let e = getD-replicate {A = ℕ} 4096 l 0 0 (omega arith) in
+    let size = length-replicate {A = ℕ} mostRows 0 in
+    let e = getD-replicate {A = ℕ} mostRows l 0 0 (omega arith) in
     omega arith
 
 pub bits-more : (marks : List ℕ) (i : ℕ) → AllBelow 2 marks → AllBelow 2 (set marks i 1)

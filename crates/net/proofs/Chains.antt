@@ -11,6 +11,7 @@ use lib.Dec.{eqb}
 use lib.ListN.{length, getD, take, set, length-set}
 use lib.Seq.{getD-set-same, getD-set-other, getD-take}
 use borrow.Author.Tests.{eq-eqb, ne-eqb, eqb-true, eqb-false}
+use Rattle.paper.specs.Limits.{mostRows, mostVariables}
 use Rattle.paper.proofs.Bools.{pick}
 use Rattle.entries.specs.First.{first}
 use Rattle.rows.specs.Rows.{argOf}
@@ -66,7 +67,7 @@ module _ (rows chosen : List ℕ) where
     pub parents : Parents rows #N net
     pub guards : Guards rows #N net
     pub nexts : (j : ℕ) → k ≤ j → j < length chosen → getD net (nextsFrom + j) 0 ≡ firstWith rows chosen (variableAt j) (j + 1)
-    pub firsts : (v : ℕ) → v < 1024 → getD net (firstsFrom + v) 0 ≡ firstWith rows chosen v k
+    pub firsts : (v : ℕ) → v < mostVariables → getD net (firstsFrom + v) 0 ≡ firstWith rows chosen v k
 
   pub linked-all : {#N k : ℕ} {net : List ℕ} → Linked #N k net → k ≡ 0 → Net rows chosen #N net
   linked-all {k = k} l e = record {
@@ -76,10 +77,10 @@ module _ (rows chosen : List ℕ) where
     firsts = λ v h. l .firsts v h ∙ ap (firstWith rows chosen v) e;
   }
 
-  module _ {#N : ℕ} (few : #N ≤ 4096) where
+  module _ {#N : ℕ} (few : #N ≤ mostRows) where
     -- none is: the words of the variables say so, and the others are as they were
     pub linked-none : {old net : List ℕ} → Parents rows #N old → Guards rows #N old → length net ≡ netLength → take firstsFrom net ≡ take firstsFrom old
-        → ((v : ℕ) → v < 1024 → getD net (firstsFrom + v) 0 ≡ length chosen) → Linked #N (length chosen) net
+        → ((v : ℕ) → v < mostVariables → getD net (firstsFrom + v) 0 ≡ length chosen) → Linked #N (length chosen) net
     linked-none {old} {net} p g size same none = record {
       parents = record { size = size; parents = λ i h k. as-before i (omega arith) ∙ p .parents i h k };
       guards = record { guards = λ i h. as-before (guardsFrom + i) (omega arith) ∙ g .guards i h };
@@ -92,8 +93,8 @@ module _ (rows chosen : List ℕ) where
 
     -- one more label is: it has its variable's first from there on as its next, and is its variable's first itself
     module _ (m k v : ℕ) {net : List ℕ} (l : Linked #N m net) (next : m ≡ k + 1) (within : m ≤ length chosen) (small : length chosen ≤ 2047)
-        (of : v ≡ variableAt k) (low : v < 1024) where
-      first-word : (u a : ℕ) → u < 1024 → getD (set net (nextsFrom + k) a) (firstsFrom + u) 0 ≡ firstWith rows chosen u (k + 1)
+        (of : v ≡ variableAt k) (low : v < mostVariables) where
+      first-word : (u a : ℕ) → u < mostVariables → getD (set net (nextsFrom + k) a) (firstsFrom + u) 0 ≡ firstWith rows chosen u (k + 1)
       first-word u a h = getD-set-other net (nextsFrom + k) (firstsFrom + u) a 0 (λ e. omega arith) ∙ l .firsts u h ∙ ap (firstWith rows chosen u) next
 
       next-word : (j : ℕ) → k ≤ j → j < length chosen
@@ -113,8 +114,8 @@ module _ (rows chosen : List ℕ) where
         firsts = λ u h. word-of once (length-set net (nextsFrom + k) _ ∙ l .parents .size) (λ w. first-word w _) u h (eqb v u) refl;
       }
         where
-          word-of : (once : List ℕ) → length once ≡ netLength → ((u : ℕ) → u < 1024 → getD once (firstsFrom + u) 0 ≡ firstWith rows chosen u (k + 1))
-              → (u : ℕ) → u < 1024 → (t : Bool) → eqb v u ≡ t → getD (set once (firstsFrom + v) k) (firstsFrom + u) 0 ≡ firstWith rows chosen u k
+          word-of : (once : List ℕ) → length once ≡ netLength → ((u : ℕ) → u < mostVariables → getD once (firstsFrom + u) 0 ≡ firstWith rows chosen u (k + 1))
+              → (u : ℕ) → u < mostVariables → (t : Bool) → eqb v u ≡ t → getD (set once (firstsFrom + v) k) (firstsFrom + u) 0 ≡ firstWith rows chosen u k
           word-of once size word u h true q =
               let e = eqb-true v u q in
               rw (← e, getD-set-same once (firstsFrom + v) k 0 (omega arith)) (sym (first-here v k (omega arith) (sym of)))

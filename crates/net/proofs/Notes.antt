@@ -7,11 +7,12 @@ use mathlib.Core.List.{List}
 use lib.ListN.{length, getD, set, length-set}
 use lib.Seq.{getD-set-same, getD-set-other}
 use borrow.Author.Count.{below-more}
+use Rattle.paper.specs.Limits.{mostRows}
 use Rattle.rows.specs.Inside.Tree.{parentOf, guardOf}
 use Rattle.net.specs.Inside.Net.{guardsFrom, nextsFrom, netLength, Parents, Guards, Only}
 
 module _ (rows : List ℕ) {#N : ℕ} {net : List ℕ} where
-  module _ (few : #N ≤ 4096) (at word : ℕ) where
+  module _ (few : #N ≤ mostRows) (at word : ℕ) where
     pub parents-kept : Parents rows #N net → guardsFrom ≤ at → Parents rows #N (set net at word)
     parents-kept p h = record {
       size = length-set net at word ∙ p .size;
@@ -29,7 +30,7 @@ module _ (rows : List ℕ) {#N : ℕ} {net : List ℕ} where
   guards-fewer g h = record { guards = λ i a. g .guards i (omega arith) }
 
   -- the next row
-  pub parents-more : (word : ℕ) → #N < 4096 → word ≡ parentOf rows #N → Parents rows #N net → Parents rows (#N + 1) (set net #N word)
+  pub parents-more : (word : ℕ) → #N < mostRows → word ≡ parentOf rows #N → Parents rows #N net → Parents rows (#N + 1) (set net #N word)
   parents-more word h e p = record {
     size = length-set net #N word ∙ p .size;
     parents = λ i a b. below-more (λ (j : ℕ). 0 < j → getD (set net #N word) j 0 ≡ parentOf rows j) #N
@@ -37,7 +38,7 @@ module _ (rows : List ℕ) {#N : ℕ} {net : List ℕ} where
         (λ _. getD-set-same net #N word 0 (let z = p .size in omega arith) ∙ e) i b a;
   }
 
-  pub guards-more : (word : ℕ) → #N < 4096 → length net ≡ netLength → word ≡ guardOf rows #N → Guards rows #N net
+  pub guards-more : (word : ℕ) → #N < mostRows → length net ≡ netLength → word ≡ guardOf rows #N → Guards rows #N net
       → Guards rows (#N + 1) (set net (guardsFrom + #N) word)
   guards-more word h size e g = record {
     guards = below-more (λ (j : ℕ). getD (set net (guardsFrom + #N) word) (guardsFrom + j) 0 ≡ guardOf rows j) #N

@@ -5,6 +5,7 @@ use mathlib.Core.Path.{_≡_, refl, sym, subst⁻¹, ap, _∙_}
 use mathlib.Core.Logic.{_⊎_, inl, inr}
 use mathlib.Core.List.{List}
 use lib.ListN.{length, getD}
+use Rattle.paper.specs.Limits.{mostRows}
 use Rattle.paper.specs.Formula.{ℓ}
 use Rattle.paper.specs.Outcome.{OneOutcome}
 use Rattle.paper.proofs.Bools.{pick}
@@ -24,7 +25,7 @@ module _ (rows chosen : List ℕ) (#N : ℕ) (made : Chosen rows chosen #N) (old
     stay : (i : ℕ) → (ParentWord #N i ⊎ (GuardWord #N i ⊎ IndexWord (length chosen) i) → ⊥) → getD xs i 0 ≡ getD ys i 0
     stay i h = p .others .stays i h ∙ sym (q .others .stays i h)
 
-    few : #N ≤ 4096
+    few : #N ≤ mostRows
     few = made .tree .nested .few
 
     parent-word : (i : ℕ) → i < guardsFrom → getD xs i 0 ≡ getD ys i 0

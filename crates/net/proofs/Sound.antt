@@ -8,6 +8,7 @@ use mathlib.Core.List.{List}
 use lib.ListN.{length, getD}
 use lib.Dec.{eqb, ltb}
 use borrow.Author.Tests.{eqb-true, eqb-false, ltb-true}
+use Rattle.paper.specs.Limits.{mostRows, mostVariables}
 use Rattle.paper.proofs.Bools.{and-left, and-right, pick}
 use Rattle.rows.specs.Rows.{kindOf, argOf, endOf, formOf, guarded, starRule, candidateRule, boundRule, keepsForm, keepsRules}
 use Rattle.rows.proofs.Meets.{child, no-child, lt-or-le}
@@ -16,7 +17,7 @@ use Rattle.rows.proofs.Rules.{kept, no-form, root-ends}
 use Rattle.net.specs.Inside.Net.{Tree, Chosen}
 
 module _ (rows reads : List ℕ) (#V #N : ℕ) (keep : (i : ℕ) → i < #N → keepsRules rows reads #V #N i ≡ true) (room : 4 * #N ≤ length rows)
-    (few : #N ≤ 4096) where
+    (few : #N ≤ mostRows) where
   -- what the form of a row asks of it
   form-keeps : (i k : ℕ) → i < #N → kindOf rows i ≡ k → keepsForm rows reads #V i (formOf k) ≡ true
   form-keeps i k h e = rw e at (kept rows reads #V #N i (keep i h) .form-keeps)
@@ -119,7 +120,7 @@ module _ (rows reads : List ℕ) (#V #N : ℕ) (keep : (i : ℕ) → i < #N → 
             let t = tree-of some .whole in
             omega arith
 
-    pub chosen-of : 0 < #N → #V ≤ 1024 → Chosen rows chosen #N
+    pub chosen-of : 0 < #N → #V ≤ mostVariables → Chosen rows chosen #N
     chosen-of some small = record {
       tree = tree-of some;
       few = at-most some;

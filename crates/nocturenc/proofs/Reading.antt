@@ -2,6 +2,7 @@
 use Prim.Native.Nat.{ℕ, _≤_}
 use native.Mathlib.Omega.{arith}
 use mathlib.Core.Path.{_≡_, refl}
+use Rattle.paper.specs.Limits.{mostRows}
 use Rattle.paper.specs.declared.Refusal.{Refusal}
 use Rattle.filling.specs.declared.Length.{Length}
 use Rattle.filling.specs.declared.Filled.the-variants as filled
@@ -27,7 +28,7 @@ pub read-refused : (r : Refusal) (n : ℕ) → n ≡ refusedAs (r .number) (r .p
 unfolding packedAnswer
 read-refused r n e h = record { answered = e; read-so = h }
 
-pub read-filled : (l : Length) → l .count ≤ 4096 → (l .count ≡ packedFilled (filled.Done l)) × ReadFilling (filled.Done l) (l .count)
+pub read-filled : (l : Length) → l .count ≤ mostRows → (l .count ≡ packedFilled (filled.Done l)) × ReadFilling (filled.Done l) (l .count)
 unfolding packedFilled
 read-filled l h = (refl, record { no-refusal = omega arith; count-is = refl })
 

@@ -155,20 +155,20 @@ module _ (g : Graph) where
       long = length-take-le count out (omega (arith, p .size, p .counted, s .small))
 
   -- at the start
-  pub state-first : (finger : List ℕ) → g .size < slots → Started g finger → State g 0 (replicate 2048 0) finger (replicate 2048 2048) (replicate 2048 2048)
+  pub state-first : (finger : List ℕ) → g .size < slots → Started g finger → State g 0 (replicate slots 0) finger (replicate slots 2048) (replicate slots 2048)
   state-first finger h s = record {
     small = h;
-    places = length-replicate {A = ℕ} 2048 0;
+    places = length-replicate {A = ℕ} slots 0;
     fingers = s .size;
-    waits = length-replicate {A = ℕ} 2048 2048;
-    lows = length-replicate {A = ℕ} 2048 2048;
+    waits = length-replicate {A = ℕ} slots 2048;
+    lows = length-replicate {A = ℕ} slots 2048;
     within = s .within;
     clear = λ j hj i hi t e. s .clear j hj i hi t;
-    awaits = λ j hj hw e. absurd (omega (arith, getD-replicate {A = ℕ} 2048 j 2048 0 (omega arith)));
+    awaits = λ j hj hw e. absurd (omega (arith, getD-replicate {A = ℕ} slots j 2048 0 (omega arith)));
     blocked = λ j hj e. absurd (omega arith);
   }
 
-  pub placing-first : (chosen out : List ℕ) → g .size < slots → length out ≡ slots → Placing g chosen 0 (replicate 2048 0) out out
+  pub placing-first : (chosen out : List ℕ) → g .size < slots → length out ≡ slots → Placing g chosen 0 (replicate slots 0) out out
   unfolding leftOf free
   placing-first chosen out h size = record {
     size = size;
@@ -180,10 +180,10 @@ module _ (g : Graph) where
       none-off : g .size ≡ g .size - 0
       none-off = omega arith
 
-      whole : those (λ i. eqb (getD (replicate 2048 0) i 0) 0) (upTo (g .size)) ≡ upTo (g .size)
+      whole : those (λ i. eqb (getD (replicate slots 0) i 0) 0) (upTo (g .size)) ≡ upTo (g .size)
       whole = those-all _ (upTo (g .size)) (λ i t. eq-eqb _ 0 (zeros i))
         where
-          zeros : (i : ℕ) → _≡_ {A = ℕ} (getD (replicate 2048 0) i 0) 0
+          zeros : (i : ℕ) → _≡_ {A = ℕ} (getD (replicate slots 0) i 0) 0
           zeros i =
-              by-lt i 2048 (λ q. getD-replicate {A = ℕ} 2048 i 0 0 q)
-              (λ q. List·getD-eq-default (replicate 2048 0) 0 (subst (λ z. z ≤ i) (sym (length-replicate {A = ℕ} 2048 0)) q))
+              by-lt i slots (λ q. getD-replicate {A = ℕ} slots i 0 0 q)
+              (λ q. List·getD-eq-default (replicate slots 0) 0 (subst (λ z. z ≤ i) (sym (length-replicate {A = ℕ} slots 0)) q))

@@ -8,6 +8,7 @@ use mathlib.Core.Path.{_≡_, refl, ap}
 use borrow.Author.Tests.{ltb-true}
 use lib.Dec.{ltb}
 use lib.ListN.{length, length-drop}
+use Rattle.paper.specs.Limits.{mostReads, mostRows, mostVariables}
 use Rattle.sections.specs.declared.Cursor.{Cursor}
 use Rattle.sections.specs.declared.Step.{Step}
 use Rattle.sections.specs.declared.Step.the-variants.{Next, Halt}
@@ -35,16 +36,16 @@ passes words c d low high width e =
 
 -- the rows stand before the cursor behind them
 pub record RowsThere (words : List ℕ) (c : Cursor) : Type 0 where
-  pub few : c .count ≤ 4096
+  pub few : c .count ≤ mostRows
   pub room : 4 * c .count ≤ c .at
   pub within : c .at ≤ length words
 
 pub rows-there : (words : List ℕ) (c : Cursor) → behindRows words ≡ Next c → RowsThere words c
 unfolding behindRows
 rows-there words c e =
-    let t = through (openAt words start 1 1024 1) _ c e in
-    let u = through (openAt (partAt words (t .mid)) (t .mid) 0 8192 1) _ c (t .went) in
-    let p = passes words (u .mid) c 1 4096 4 (u .went) in
+    let t = through (openAt words start 1 mostVariables 1) _ c e in
+    let u = through (openAt (partAt words (t .mid)) (t .mid) 0 mostReads 1) _ c (t .went) in
+    let p = passes words (u .mid) c 1 mostRows 4 (u .went) in
     record { few = p .most; room = omega arith; within = p .within }
 
 -- a label that has a row passed the test for N, so that it is below 4,096
@@ -52,12 +53,12 @@ here-by : (b : Bool) (x row : Row) → cond b (Here x) Absent ≡ Here row → b
 here-by true x row e = refl
 here-by false x row e = let z : _≡_ {A = ℕ} 0 1 = cc in absurd (omega arith)
 
-before-few : (words : List ℕ) (i : ℕ) (row : Row) (s : Step) → ((c : Cursor) → s ≡ Next c → RowsThere words c) → foundIn words i s ≡ Here row → i < 4096
+before-few : (words : List ℕ) (i : ℕ) (row : Row) (s : Step) → ((c : Cursor) → s ≡ Next c → RowsThere words c) → foundIn words i s ≡ Here row → i < mostRows
 before-few words i row (Halt r) there e = let z : _≡_ {A = ℕ} 0 1 = cc in absurd (omega arith)
 before-few words i row (Next c) there e =
     let t = there c refl in
     omega (arith, ltb-true i (c .count) (here-by (ltb i (c .count)) _ row e))
 
-pub here-few : (words : List ℕ) (i : ℕ) (row : Row) → rowAt words i ≡ Here row → i < 4096
+pub here-few : (words : List ℕ) (i : ℕ) (row : Row) → rowAt words i ≡ Here row → i < mostRows
 unfolding rowAt
 here-few words i row e = before-few words i row (behindRows words) (rows-there words) e

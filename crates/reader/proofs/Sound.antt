@@ -9,6 +9,7 @@ use borrow.Author.Tests.{lt-ltb, le-ltb, ltb-true}
 use lib.Dec.{ltb}
 use lib.ListN.{getD, drop, length-drop}
 use lib.Seq.{getD-drop}
+use Rattle.paper.specs.Limits.{mostReads, mostRows, mostVariables}
 use Rattle.sections.specs.declared.Cursor.{Cursor}
 use Rattle.table.specs.declared.Layout.{Layout}
 use Rattle.sections.specs.declared.Step.the-variants.{Next}
@@ -38,15 +39,15 @@ module _ (words : List ℕ) (l : Layout) (h : Laid words l) where
   abbrev c : Cursor
   c = behind b 4 (l .rows)
 
-  opens-1 : openAt words start 1 1024 1 ≡ Next a
+  opens-1 : openAt words start 1 mostVariables 1 ≡ Next a
   opens-1 =
       let all = h .all-words in
-      of-opened words start 1 1024 1 (l .variables) (record { word = h .names .counted; least = h .names .some; most = h .names .most; room = omega arith })
+      of-opened words start 1 mostVariables 1 (l .variables) (record { word = h .names .counted; least = h .names .some; most = h .names .most; room = omega arith })
 
-  opens-2 : openAt (partAt words a) a 0 8192 1 ≡ Next b
+  opens-2 : openAt (partAt words a) a 0 mostReads 1 ≡ Next b
   opens-2 =
       let all = h .all-words in
-      of-opened (partAt words a) a 0 8192 1 (l .reads)
+      of-opened (partAt words a) a 0 mostReads 1 (l .reads)
       (record {
         word = count-at words (a .at) (l .variables + 1) (l .reads) (omega arith) (h .reads .counted);
         least = omega arith;
@@ -54,10 +55,10 @@ module _ (words : List ℕ) (l : Layout) (h : Laid words l) where
         room = omega (arith, length-drop (a .at) words);
       })
 
-  opens-3 : openAt (partAt words b) b 1 4096 4 ≡ Next c
+  opens-3 : openAt (partAt words b) b 1 mostRows 4 ≡ Next c
   opens-3 =
       let all = h .all-words in
-      of-opened (partAt words b) b 1 4096 4 (l .rows)
+      of-opened (partAt words b) b 1 mostRows 4 (l .rows)
       (record {
         word = count-at words (b .at) (l .variables + l .reads + 2) (l .rows) (omega arith) (h .rows .counted);
         least = h .rows .some;

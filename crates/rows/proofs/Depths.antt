@@ -10,6 +10,7 @@ use mathlib.Core.Logic.{_⊎_, inl, inr}
 use mathlib.Core.List.{List}
 use lib.Dec.{ltb}
 use borrow.Author.Tests.{ltb-true, lt-ltb, le-ltb}
+use Rattle.paper.specs.Limits.{mostDepth}
 use Rattle.paper.proofs.Bools.{same-answer, pick}
 use Rattle.entries.specs.First.{first}
 use Rattle.rows.specs.Rows.{endOf, keepsRules, roundOf, depthOf, isDeep}
@@ -82,14 +83,14 @@ module _ (rows : List ℕ) where
     pub too-deep : depthOf rows at ≡ 65 → at ≡ lowestDeep at
     too-deep e =
         found-from (isDeep rows) at (endOf rows at) at (omega arith) (nested .rises at here) (λ j from below. absurd (omega arith))
-        (lt-ltb 64 (depthOf rows at) (omega arith))
+        (lt-ltb mostDepth (depthOf rows at) (omega arith))
 
-    pub passed-none : depthOf rows at ≤ 64 → Passed at (at + 1)
+    pub passed-none : depthOf rows at ≤ mostDepth → Passed at (at + 1)
     passed-none h = record {
       after = omega arith;
       inside = let z = nested .rises at here in omega arith;
       ended = λ j from below. absurd (omega arith);
-      shallow = λ j from below. ap (isDeep rows) (omega arith) ∙ le-ltb 64 (depthOf rows at) h;
+      shallow = λ j from below. ap (isDeep rows) (omega arith) ∙ le-ltb mostDepth (depthOf rows at) h;
     }
 
   -- the walk stands at a child

@@ -7,6 +7,7 @@ use mathlib.Core.Path.{_≡_, ap, subst}
 use mathlib.Core.Bool.{true}
 use mathlib.Core.List.{List}
 use lib.ListN.{length}
+use Rattle.paper.specs.Limits.{mostRows}
 use Rattle.paper.proofs.Bools.{pick}
 use Rattle.rows.specs.Rows.{kindOf, endOf, formOf, meets, keepsRules}
 use Rattle.rows.specs.Inside.Looks.{Nested}
@@ -45,7 +46,7 @@ module _ (rows reads : List ℕ) (#V #N : ℕ) (keep : (i : ℕ) → i < #N → 
       let q : endOf rows (i + 1) ≡ i + 2 = omega arith in
       subst (λ k. meets rows (endOf rows i) k m ≡ true) q (c .others)
 
-  pub nested : 4 * #N ≤ length rows → #N ≤ 4096 → Nested rows #N
+  pub nested : 4 * #N ≤ length rows → #N ≤ mostRows → Nested rows #N
   nested room few = record {
     room = room;
     few = few;

@@ -6,6 +6,7 @@ use mathlib.Core.Path.{_≡_, sym, subst}
 use mathlib.Core.Bool.{true}
 use mathlib.Core.List.{List}
 use lib.ListN.{length}
+use Rattle.paper.specs.Limits.{mostRows}
 use Rattle.rows.specs.Rows.{kindOf, argOf, endOf, Form, aFALSE, aStar, aCandidate, aConjunction}
 use Rattle.rows.specs.Rows.{aDisjunction, anExists, anIF, noForm, formOf, meets, keepsRules}
 use Rattle.rows.specs.Inside.Walk.{expressions, firstUnder, Shaped}
@@ -39,7 +40,7 @@ module _ (rows reads : List ℕ) (#V #N : ℕ) (keep : (i : ℕ) → i < #N → 
   of-kind i (is-IF e) s = (omega arith, λ h. omega arith)
   of-kind i (is-none e) s = absurd s
 
-  pub shaped : 4 * #N ≤ length rows → #N ≤ 4096 → Shaped rows #N
+  pub shaped : 4 * #N ≤ length rows → #N ≤ mostRows → Shaped rows #N
   shaped room few =
       let n = nested rows reads #V #N keep room few in
       let says : (i : ℕ) → i < #N → Says rows reads #V i (formOf (kindOf rows i)) = λ i h. kept rows reads #V #N i (keep i h) .says in

@@ -8,6 +8,7 @@ use mathlib.Core.Bool.{Bool, true, false}
 use mathlib.Core.List.{List, []}
 use lib.ListN.{length}
 use lib.Dec.{eqb}
+use Rattle.paper.specs.Limits.{mostRows}
 use Rattle.paper.specs.declared.Label.{Label}
 use Rattle.paper.specs.Formula.{ℓ, 𝓋, Formula}
 use Rattle.paper.specs.Structure.Fold.{Fold, foldOf, foldAll}
@@ -125,7 +126,7 @@ first-child rows stop k (suc m) some e = rw (sub-one (suc m)) (child rows stop k
 pub row-there : {rows : List ℕ} {#N i : ℕ} → Walkable rows #N i → 4 * i + 4 ≤ length rows
 row-there w = let room = w .shaped .room in omega arith
 
-pub row-few : {rows : List ℕ} {#N i : ℕ} → Walkable rows #N i → i < 4096
+pub row-few : {rows : List ℕ} {#N i : ℕ} → Walkable rows #N i → i < mostRows
 row-few w = let few = w .shaped .few in omega arith
 
 pub row-known : {rows : List ℕ} {#N i : ℕ} → Walkable rows #N i → kindOf rows i < 7

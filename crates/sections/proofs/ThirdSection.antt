@@ -8,6 +8,7 @@ use mathlib.Core.List.{List}
 use mathlib.Core.Path.{_≡_}
 use borrow.Author.Tests.{lt-ltb, le-ltb, not-false}
 use lib.ListN.{length, getD, drop}
+use Rattle.paper.specs.Limits.{mostRows}
 use Rattle.sections.specs.declared.Cursor.{Cursor}
 use Rattle.sections.specs.declared.Step.the-variants.{Next}
 use Rattle.entries.specs.First.{first}
@@ -32,7 +33,7 @@ module _ (rows reads : List ℕ) (#V #N : ℕ) where
   pub none-broken : (k : ℕ) → k ≡ first (breaksRules rows reads #V #N) #N → #N ≤ k → (i : ℕ) → i < #N → keepsRules rows reads #V #N i ≡ true
   none-broken k e h = all-keep rows reads #V #N (omega (arith, first-le (breaksRules rows reads #V #N) #N))
 
-  pub walk-asks : ((i : ℕ) → i < #N → keepsRules rows reads #V #N i ≡ true) → 4 * #N ≤ length rows → 1 ≤ #N → #N ≤ 4096
+  pub walk-asks : ((i : ℕ) → i < #N → keepsRules rows reads #V #N i ≡ true) → 4 * #N ≤ length rows → 1 ≤ #N → #N ≤ mostRows
       → Nested rows #N × (0 < #N) × (depthOf rows 0 + 64 ≡ 65)
   walk-asks keep room some few =
       (nested rows reads #V #N keep room few, omega arith, rw (top-depth rows reads #V #N (keep 0 (omega arith)) (omega arith)))
@@ -43,7 +44,7 @@ taken-small rows h zero = omega arith
 taken-small rows h (suc n) = omega (arith, taken-small rows h n, takes-le (kindOf rows n) (argOf rows n), h (4 * n + 1))
 
 -- The answers of a part that opened with cursor m: the first search, the reads left over, the second search.
-module _ (part reads : List ℕ) (c m : Cursor) (came : openAt part c 1 4096 4 ≡ Next m) (k : ℕ)
+module _ (part reads : List ℕ) (c m : Cursor) (came : openAt part c 1 mostRows 4 ≡ Next m) (k : ℕ)
     (lowest : k ≡ first (breaksRules (drop 1 part) reads (c .variables) (m .count)) (m .count)) where
   pub some-broken : k < m .count → rowsAt part reads c ≡ halt 6 k
   unfolding rowsAt

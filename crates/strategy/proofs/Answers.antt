@@ -11,7 +11,7 @@ use lib.ListN.{length, getD, drop, length-append}
 use lib.Seq.{take-at}
 use borrow.Author.Tests.{eqb-false, ltb-false, not-false}
 use Rattle.paper.specs.declared.Refusal.{Refusal}
-use Rattle.paper.specs.Limits.{mostTransitions}
+use Rattle.paper.specs.Limits.{mostTransitions, mostDepth, slots}
 use Rattle.paper.specs.declared.Label.{Label}
 use Rattle.paper.specs.declared.Variable.{Variable}
 use Rattle.paper.specs.Lists.{anyOf, those}
@@ -71,16 +71,16 @@ module _ (#V : ℕ) (f : Formula) (A : List Label) where
       omega arith
 
 pub count-answers : {rows reads chosen : List ℕ} {#V #N : ℕ} {marks : List ℕ} (l : Layout) → Covered rows reads chosen #V #N → Marked (proposalOf chosen) marks
-    → asJudged l (judgeCount #V (formulaOf rows reads) (proposalOf chosen)) ≡ countedAs l (total (keysAt rows marks 64 0))
+    → asJudged l (judgeCount #V (formulaOf rows reads) (proposalOf chosen)) ≡ countedAs l (total (keysAt rows marks mostDepth 0))
 count-answers {rows} {reads} {chosen} {#V} {#N} {marks} l c marked =
     let f = formulaOf rows reads in
     let A = proposalOf chosen in
     let minimal = minimal-of #V f A (c .none-missed) (c .none-doubled) in
     let n = numbers-say #V f A (c .parts .well-formed) (homogeneous-of #V f A (c .no-strangers)) minimal .count in
     let w = walkable (c .parts) in
-    counted-answer l _ _ _ (length (keys f A)) (total (keysAt rows marks 64 0))
-    (keys-past-limit rows marks 64 0 A marked w reads ∙ ap (ltb mostTransitions) (sym n))
-    (λ h. keys-number rows marks 64 0 A marked w reads h ∙ sym n)
+    counted-answer l _ _ _ (length (keys f A)) (total (keysAt rows marks mostDepth 0))
+    (keys-past-limit rows marks mostDepth 0 A marked w reads ∙ ap (ltb mostTransitions) (sym n))
+    (λ h. keys-number rows marks mostDepth 0 A marked w reads h ∙ sym n)
 
 module _ (rows reads chosen : List ℕ) where
   abbrev judgementBy : ℕ → Judgement
@@ -112,7 +112,7 @@ module _ {rows reads chosen : List ℕ} (l : Layout) {order₀ order : List ℕ}
   many = reported-length c ∙ sym (filled .number)
 
   -- what is copied on acceptance is all there
-  pub order-there : (lent : List ℕ) → length lent ≡ 2048 → (count ≤ length order) × (count ≤ 2048) × (count ≤ length lent)
+  pub order-there : (lent : List ℕ) → length lent ≡ slots → (count ≤ length order) × (count ≤ slots) × (count ≤ length lent)
   order-there lent room =
       let few = order-fits c in
       let n = ap length (order-left c filled) ∙ length-append (reported rows reads chosen) (drop (length (reported rows reads chosen)) order₀) in
@@ -128,7 +128,7 @@ module _ {rows reads chosen : List ℕ} (l : Layout) {order₀ order : List ℕ}
 
   -- all are placed, and the count answers
   module _ {marks : List ℕ} {r : Judged} (all : length chosen ≤ count) (marked : Marked (proposalOf chosen) marks)
-      (counted : r ≡ countedAs l (total (keysAt rows marks 64 0))) where
+      (counted : r ≡ countedAs l (total (keysAt rows marks mostDepth 0))) where
     as-judged : r ≡ asJudged l (judgeOrder (l .variables) (formulaOf rows reads) (proposalOf chosen))
     as-judged = counted ∙ sym (ap (asJudged l) (order-passes c (omega (arith, filled .number))) ∙ count-answers l c marked)
 

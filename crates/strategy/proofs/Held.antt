@@ -6,6 +6,7 @@ use native.Mathlib.Nat.{eq-or-lt-of-le}
 use mathlib.Core.Path.{_≡_, ap, subst}
 use mathlib.Core.List.{List, List·Memᴰ}
 use lib.ListN.{length, getD, take, drop, length-drop}
+use Rattle.paper.specs.Limits.{mostDepth, mostRows}
 use Rattle.paper.specs.declared.Label.{Label}
 use Rattle.paper.specs.Formula.{labels, Formula}
 use Rattle.paper.proofs.Bools.{pick}
@@ -112,25 +113,25 @@ module _ {rows reads chosen : List ℕ} {#V #N : ℕ} (p : Parts rows reads chos
     writes : Writes rows reads f 0 0
     many : size f ≡ #N
 
-  held : Held (formulaAt rows reads 64 0)
+  held : Held (formulaAt rows reads mostDepth 0)
   held =
       let f = formulaAt rows reads #N 0 in
       let w = rules-write-whole rows reads #V #N (p .keeps) #N (p .some-rows) (omega arith) in
       let d = written-depth rows reads f #N (w .writes) (w .many) .0 (p .shallow) in
-      rw (formula-read rows reads f 0 0 64 (w .writes) d) (record { writes = w .writes; many = w .many })
+      rw (formula-read rows reads f 0 0 mostDepth (w .writes) d) (record { writes = w .writes; many = w .many })
 
-  pub parts-write : Writes rows reads (formulaAt rows reads 64 0) 0 0
+  pub parts-write : Writes rows reads (formulaAt rows reads mostDepth 0) 0 0
   parts-write = held .writes
 
-  pub rows-are : size (formulaAt rows reads 64 0) ≡ #N
+  pub rows-are : size (formulaAt rows reads mostDepth 0) ≡ #N
   rows-are = held .many
 
-  pub few-labels : (l : Label) → List·Memᴰ l (labels (formulaAt rows reads 64 0)) → l .0 < 4096
+  pub few-labels : (l : Label) → List·Memᴰ l (labels (formulaAt rows reads mostDepth 0)) → l .0 < mostRows
   few-labels l t =
       let n = rows-are in
       let m = p .most-rows in
-      let h = rw (labels-count rows reads (formulaAt rows reads 64 0) 0 0 parts-write) at (mem-has t) in
-      omega (arith, labels-between 0 (size (formulaAt rows reads 64 0)) l h)
+      let h = rw (labels-count rows reads (formulaAt rows reads mostDepth 0) 0 0 parts-write) at (mem-has t) in
+      omega (arith, labels-between 0 (size (formulaAt rows reads mostDepth 0)) l h)
 
   pub walkable : Walkable rows #N 0
   walkable = record { shaped = shaped rows reads #V #N (p .keeps) (p .room) (p .most-rows); here = p .some-rows }
@@ -138,7 +139,7 @@ module _ {rows reads chosen : List ℕ} {#V #N : ℕ} (p : Parts rows reads chos
   pub row-of-chosen : (k : ℕ) → k < length chosen → 4 * getD chosen k 0 + 4 ≤ length rows
   row-of-chosen k h = let b = p .below k h in let r = p .room in omega arith
 
-  pub few-chosen : AllBelow 4096 chosen
+  pub few-chosen : AllBelow mostRows chosen
   few-chosen k h = let b = p .below k h in let m = p .most-rows in omega arith
 
   -- what a star and a guard say

@@ -11,8 +11,8 @@ ghost use Rattle.strategy.specs.Inside.Parts.{Parts, Covered, OrderedPar
 ghost use Rattle.paper.specs.Limits.{mostDepth, slots};
 use crate::Accepted;
 use crate::Judged;
-use crate::refused;
 use crate::choice::first_stranger;
+use crate::refused;
 use cover::Covering;
 use cover::covering_of;
 use cycles::lowest_on_cycle;

@@ -6,6 +6,7 @@ use mathlib.Core.Path.{_≡_, refl, ap, _∙_}
 use borrow.Author.Tests.{ltb-false, le-ltb}
 use lib.Dec.{ltb}
 use lib.ListN.{length}
+use Rattle.paper.specs.Limits.{mostReads, mostRows, mostVariables}
 use Rattle.sections.specs.declared.Cursor.{Cursor}
 use Rattle.table.specs.declared.Layout.{Layout}
 use Rattle.sections.specs.declared.Step.{Step}
@@ -66,7 +67,7 @@ module _ (words : List ℕ) where
       let s = chosen-of words (p .count) (q .count) (r .count) (v .mid) (w .mid) (r .cursor) (w .came) in
       all-passed p q r s d (w .went)
 
-  pub counts-small : (d : Cursor) → sections words ≡ Next d → (d .variables ≤ 1024) × (d .reads ≤ 8192) × (d .rows ≤ 4096)
+  pub counts-small : (d : Cursor) → sections words ≡ Next d → (d .variables ≤ mostVariables) × (d .reads ≤ mostReads) × (d .rows ≤ mostRows)
   counts-small d e = let s = sections-of d e in let h = s .laid-out in rw (s .cursor) (h .names .most, h .reads .most, h .rows .most)
 
   of-sections : (#V #R #N #S : ℕ) → Laid words (layout #V #R #N #S) → sections words ≡ Next (afterChosen #V #R #N #S)

@@ -6,6 +6,7 @@ use mathlib.Core.Bool.{Bool, true, false, cond}
 use mathlib.Core.List.{List, _++_}
 use lib.Dec.{eqb, ltb}
 use lib.ListN.{drop, replicate, length-replicate}
+use Rattle.paper.specs.Limits.{mostDepth}
 use Rattle.paper.specs.declared.Label.{Label}
 use Rattle.paper.specs.Formula.{Formula, Formulas, FALSE, test, candidate, conjunction, disjunction, exists, IF, only, _⨾_}
 use Rattle.paper.specs.Structure.KeyCount.{keyCountOf, numberOf, numberOfEach}
@@ -62,12 +63,12 @@ module _ (P : Label → Type 0) where
       every-kept (f ⨾ fs) h = all-append (first-kept f (all-kept f 0 (h .0))) (every-kept fs (h .1))
 
 -- cleared bytes, with those of the kept labels set
-pub kept-marked : {rows marks out cleared after : List ℕ} {#N k : ℕ} {own : Distinct} → Keepable rows marks out #N 0 64 own k
-    → cleared ≡ replicate #N 0 ++ drop #N out → KeptAfter rows marks 64 0 k cleared after → MarkedKept rows marks #N k out after
+pub kept-marked : {rows marks out cleared after : List ℕ} {#N k : ℕ} {own : Distinct} → Keepable rows marks out #N 0 mostDepth own k
+    → cleared ≡ replicate #N 0 ++ drop #N out → KeptAfter rows marks mostDepth 0 k cleared after → MarkedKept rows marks #N k out after
 kept-marked {rows} {marks} {out} {after = after} {#N} {k} p c q = record {
   bytes-are = λ A marked reads.
-      let f = formulaAt rows reads 64 0 in
-      let below = all-kept (λ l. l .0 < #N) A f k (leaves-hold rows reads (λ l. l .0 < #N) (λ l h. h) 64 0 (p .walkable)) in
+      let f = formulaAt rows reads mostDepth 0 in
+      let below = all-kept (λ l. l .0 < #N) A f k (leaves-hold rows reads (λ l. l .0 < #N) (λ l h. h) mostDepth 0 (p .walkable)) in
       q .bytes-are A marked reads ∙ ap (markedBy (keptAt A f k)) c ∙ marked-front (keptAt A f k) #N (replicate #N 0) (drop #N out) (length-replicate #N 0) below
       ∙ ap (λ xs. xs ++ drop #N out) (marked-bytes (keptAt A f k) #N);
 }

@@ -10,6 +10,7 @@ use mathlib.Core.Bool.{Bool, true, false, cond, not, _||_}
 use mathlib.Core.List.{List, [], _∷_, _++_, append-nil}
 use lib.Dec.{eqb, ltb}
 use borrow.Author.Tests.{ltb-false, lt-ltb, eqb-true, eqb-false}
+use Rattle.paper.specs.Limits.{mostTransitions}
 use Rattle.paper.specs.declared.Label.{Label}
 use Rattle.paper.specs.Formula.{ℓ, Formula, Formulas}
 use Rattle.paper.specs.Structure.KeyCount.{keyCountOf, numberOf, numberOfEach}
@@ -145,10 +146,10 @@ module _ (A : List Label) (marks : List ℕ) (marked : Marked A marks) (rows rea
   abbrev from : Shares → ℕ → ℕ → List Label
   from s m i = keptFrom A rows marks reads left s m i
 
-  number-is : {i : ℕ} → Walkable rows #N i → own i ≤ 65535 → numberOf A (child i) ≡ own i
+  number-is : {i : ℕ} → Walkable rows #N i → own i ≤ mostTransitions → numberOf A (child i) ≡ own i
   number-is {i} w few = sym (keys-number rows marks left i A marked w reads few)
 
-  number-each : (more i : ℕ) → Along rows #N (suc more) i → AllWithin 65535 (totals (suc more) i)
+  number-each : (more i : ℕ) → Along rows #N (suc more) i → AllWithin mostTransitions (totals (suc more) i)
       → numberOfEach A (children more i) ≡ productOf (totals (suc more) i)
   unfolding numbersFrom childrenAt
   number-each zero i a h = number-is (along-on a (some-more zero)) (h .0) ∙ sym (mul-one (own i))
@@ -211,7 +212,7 @@ module _ (A : List Label) (marks : List ℕ) (marked : Marked A marks) (rows rea
 
 -- a row with expressions under it, the number of whose keys is within the limit, and one of its keys
 module _ {rows : List ℕ} {#N i : ℕ} (marks : List ℕ) (left k : ℕ) (w : Walkable rows #N i) (deep : left ≡ 0 → ⊥) (join : 2 < kindOf rows i)
-    (few : total (keysAt rows marks left i) ≤ 65535) (among : k < total (keysAt rows marks left i)) where
+    (few : total (keysAt rows marks left i) ≤ mostTransitions) (among : k < total (keysAt rows marks left i)) where
   abbrev keys : Distinct
   keys = keysAt rows marks left i
 

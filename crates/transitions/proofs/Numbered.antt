@@ -6,6 +6,7 @@ use mathlib.Core.Path.{_≡_, sym, ap, subst, _∙_}
 use mathlib.Core.Bool.{true}
 use mathlib.Core.List.{List, map, List·Memᴰ}
 use lib.ListN.{length, length-map}
+use Rattle.paper.specs.Limits.{mostDepth, mostTransitions}
 use Rattle.paper.specs.declared.Label.{Label}
 use Rattle.paper.specs.Lists.{those}
 use Rattle.paper.specs.Formula.{ℓ, has, Formula, Rising, WellFormed}
@@ -74,15 +75,15 @@ module _ (#V : ℕ) (f : Formula) (A : List Label) (formed : WellFormed #V f) (h
   }
 
   -- an accepted table gives what a walk to transition k asks
-  module _ {rows marks : List ℕ} {#N : ℕ} (reads : List ℕ) (f-is : f ≡ formulaAt rows reads 64 0) (w : Walkable rows #N 0) (marked : Marked A marks)
-      (few : length (keys f A) ≤ 65535) where
-    count : length (keys f A) ≡ numberOf A (formulaAt rows reads 64 0)
+  module _ {rows marks : List ℕ} {#N : ℕ} (reads : List ℕ) (f-is : f ≡ formulaAt rows reads mostDepth 0) (w : Walkable rows #N 0) (marked : Marked A marks)
+      (few : length (keys f A) ≤ mostTransitions) where
+    count : length (keys f A) ≡ numberOf A (formulaAt rows reads mostDepth 0)
     count = says .count ∙ ap (numberOf A) f-is
 
-    number-is : total (keysAt rows marks 64 0) ≡ length (keys f A)
-    number-is = keys-number-within rows marks 64 0 A marked w reads (subst (λ n. n ≤ 65535) count few) ∙ sym count
+    number-is : total (keysAt rows marks mostDepth 0) ≡ length (keys f A)
+    number-is = keys-number-within rows marks mostDepth 0 A marked w reads (subst (λ n. n ≤ mostTransitions) count few) ∙ sym count
 
-    pub transition-keepable : (own : Distinct) → own ≡ keysAt rows marks 64 0 → (out : List ℕ) → #N ≤ length out → Keepable rows marks out #N 0 64 own k
+    pub transition-keepable : (own : Distinct) → own ≡ keysAt rows marks mostDepth 0 → (out : List ℕ) → #N ≤ length out → Keepable rows marks out #N 0 mostDepth own k
     transition-keepable own own-are out room =
         let n = ap total own-are ∙ number-is in
         record { walkable = w; room = room; size = marked .size; own-are = own-are; few = omega arith; among = omega arith }

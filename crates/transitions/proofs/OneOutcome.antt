@@ -8,6 +8,7 @@ use mathlib.Core.List.{List, []}
 use lib.Dec.{eqb}
 use lib.ListN.{length}
 use borrow.Author.Tests.{eq-eqb}
+use Rattle.paper.specs.Limits.{mostRows}
 use Rattle.paper.specs.declared.Label.{Label}
 use Rattle.paper.specs.Lists.{those}
 use Rattle.paper.specs.Outcome.{OneOutcome}
@@ -30,22 +31,22 @@ has-labels (suc n) i l from below = pick (lt-or-le i l)
 
 -- the labels marked
 chosenBy : List ℕ → List Label
-chosenBy marks = those (λ l. isMarked marks (l .0)) (labelsOn 0 4096)
+chosenBy marks = those (λ l. isMarked marks (l .0)) (labelsOn 0 mostRows)
 
-chosen-marked : (marks : List ℕ) → length marks ≡ 4096 → Marked (chosenBy marks) marks
+chosen-marked : (marks : List ℕ) → length marks ≡ mostRows → Marked (chosenBy marks) marks
 unfolding chosenBy
 chosen-marked marks size = record { size = size; marks-are = are }
   where
     p : Label → Bool
     p l = isMarked marks (l .0)
 
-    are : (l : ℕ) → l < 4096 → isMarked marks l ≡ has (those p (labelsOn 0 4096)) (ℓ l)
+    are : (l : ℕ) → l < mostRows → isMarked marks l ≡ has (those p (labelsOn 0 mostRows)) (ℓ l)
     are l h =
-        same-answer (p (ℓ l)) (has (those p (labelsOn 0 4096)) (ℓ l)) (has-those p (labelsOn 0 4096) (ℓ l) (has-labels 4096 0 l (omega arith) (omega arith)))
-        (λ t. those-has p (labelsOn 0 4096) (ℓ l) t .1)
+        same-answer (p (ℓ l)) (has (those p (labelsOn 0 mostRows)) (ℓ l)) (has-those p (labelsOn 0 mostRows) (ℓ l) (has-labels mostRows 0 l (omega arith) (omega arith)))
+        (λ t. those-has p (labelsOn 0 mostRows) (ℓ l) t .1)
 
 -- what is said of every strategy whose marks these are is said of the labels marked
-of-marks : {A : Type 0} {marks : List ℕ} → length marks ≡ 4096 → (value : List Label → List ℕ → A) {left other : A}
+of-marks : {A : Type 0} {marks : List ℕ} → length marks ≡ mostRows → (value : List Label → List ℕ → A) {left other : A}
     → ((A : List Label) → Marked A marks → (reads : List ℕ) → left ≡ value A reads)
     → ((A : List Label) → Marked A marks → (reads : List ℕ) → other ≡ value A reads) → left ≡ other
 of-marks {marks = marks} size value p q = let m = chosen-marked marks size in by-equation (p (chosenBy marks) m []) (q (chosenBy marks) m [])

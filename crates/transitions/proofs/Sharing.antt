@@ -8,6 +8,7 @@ use mathlib.Core.Bool.{Bool, true, false, false≢true}
 use mathlib.Core.List.{List, _∷_}
 use lib.Dec.{eqb, ltb}
 use borrow.Author.Tests.{ltb-true, ltb-false, eqb-false, not-true}
+use Rattle.paper.specs.Limits.{mostTransitions}
 use Rattle.keys.proofs.KeysUnder.{productOf, sumOf, AllWithin, factors-some}
 use Rattle.transitions.specs.declared.Shares.{Shares}
 use Rattle.transitions.specs.declared.Shares.the-variants.{Each, All, One, Done}
@@ -15,9 +16,9 @@ use Rattle.transitions.specs.Inside.Kept.{CanTake, oneTurn, turnOf}
 
 -- children with these numbers of keys, still to come, can take part so
 abbrev pub Fits : Shares → List ℕ → Type 0
-Fits (Each k all) ns = (all ≡ productOf ns) × (k < all) × (all ≤ 65535)
-Fits All ns = AllWithin 65535 ns
-Fits (One k) ns = (k < sumOf ns) × (sumOf ns ≤ 65535)
+Fits (Each k all) ns = (all ≡ productOf ns) × (k < all) × (all ≤ mostTransitions)
+Fits All ns = AllWithin mostTransitions ns
+Fits (One k) ns = (k < sumOf ns) × (sumOf ns ≤ mostTransitions)
 Fits Done ns = Unit {0}
 
 -- the numbers of which the first is n, and the product of the others is p
@@ -58,11 +59,11 @@ module _ (n : ℕ) (ns : List ℕ) where
   fits-next Done f = tt
 
   one-on : (k : ℕ) (t : Bool) → ltb k n ≡ t → Fits (One k) (n ∷ ns) → oneTurn t k n .on ≡ true
-      → (n ≤ 65535) × (oneTurn t k n .key < n)
+      → (n ≤ mostTransitions) × (oneTurn t k n .key < n)
   one-on k true e f on = (omega arith, ltb-true k n e)
   one-on k false e f on = absurd (false≢true on)
 
-  pub fits-on : (s : Shares) → Fits s (n ∷ ns) → turnOf s n .on ≡ true → (n ≤ 65535) × (turnOf s n .key < n)
+  pub fits-on : (s : Shares) → Fits s (n ∷ ns) → turnOf s n .on ≡ true → (n ≤ mostTransitions) × (turnOf s n .key < n)
   unfolding turnOf
   fits-on (Each k all) f on = let d = divided (f .0) (f .1) in (omega arith, rw (d .rest) (div-lt-iff-lt-mul (d .others) .1 (omega arith)))
   fits-on All f on = let apart = eqb-false n 0 (not-true (eqb n 0) on) in (f .0, omega arith)

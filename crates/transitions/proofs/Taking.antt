@@ -7,6 +7,7 @@ use mathlib.Core.Bool.{true, false}
 use mathlib.Core.List.{List, _∷_}
 use lib.ListN.{length, set}
 use borrow.Author.Tests.{eq-eqb}
+use Rattle.paper.specs.Limits.{mostRows, mostTransitions}
 use Rattle.paper.specs.declared.Label.{Label}
 use Rattle.paper.specs.Formula.{ℓ}
 use Rattle.paper.specs.Structure.Kept.{keptAt}
@@ -64,7 +65,7 @@ pub record Taking (rows marks : List ℕ) (#N left : ℕ) (out₀ : List ℕ) (s
 module _ {rows marks : List ℕ} {#N i left k kind m₀ : ℕ} {c₀ : Label} {s₀ : Shares} {out₀ : List ℕ} {own : Distinct}
     (e : kind ≡ kindOf rows i) (join : 2 < kind) (deep : left ≡ 0 → ⊥) (p : Keepable rows marks out₀ #N i left own k)
     (s-is : s₀ ≡ sharesOf (eachUnder kind) own k) (m-is : m₀ ≡ expressionsAt rows i) (c-is : c₀ ≡ ℓ (firstAt rows i)) where
-  few : total (keysAt rows marks left i) ≤ 65535
+  few : total (keysAt rows marks left i) ≤ mostTransitions
   few = rw (p .own-are) at (p .few)
 
   among : k < total (keysAt rows marks left i)
@@ -145,7 +146,7 @@ module _ {rows marks : List ℕ} {#N left : ℕ} {out₀ : List ℕ} {s₀ : Sha
       turn-here = u-is ∙ ap (turnOf s) n-is
 
       -- where it takes part, it is asked for a key of its own
-      pub taking-asks : u .on ≡ true → #N ≤ length out₀ → length marks ≡ 4096 → Keepable rows marks out #N (c .0) (left - 1) keys (u .key)
+      pub taking-asks : u .on ≡ true → #N ≤ length out₀ → length marks ≡ mostRows → Keepable rows marks out #N (c .0) (left - 1) keys (u .key)
       taking-asks on room size = record {
         walkable = taking-on;
         room = let e = t .same-length in omega arith;

@@ -6,6 +6,7 @@ use native.Mathlib.Omega.{arith}
 use mathlib.Core.Path.{_≡_, refl, sym, ap, _∙_}
 use mathlib.Core.List.{List, [], _∷_, _++_, map, List·Memᴰ·head, List·Memᴰ·tail}
 use lib.ListN.{length, getD, length-append, length-map}
+use Rattle.paper.specs.Limits.{mostDepth}
 use Rattle.paper.specs.Formula.{ℓ, Star, stars}
 use Rattle.table.specs.declared.Layout.{Layout}
 use Rattle.table.specs.declared.Checked.the-variants.{Sound}
@@ -139,7 +140,7 @@ module _ (t : Table) (w : Within t) where
   read-back =
       rw (
         names-at t .stand .is,
-        formula-read (rowsIn (written t) (layoutOf t)) (readsIn (written t) (layoutOf t)) (t .formula) 0 0 64 writes (w .shallow),
+        formula-read (rowsIn (written t) (layoutOf t)) (readsIn (written t) (layoutOf t)) (t .formula) 0 0 mostDepth writes (w .shallow),
         ← chosen-count t,
         chosen-at t .stand .is,
         labels-back,

@@ -7,6 +7,7 @@ use mathlib.Core.Bool.{true}
 use mathlib.Core.List.{List, _∷_, _++_, map, append-assoc, append-nil}
 use lib.ListN.{length, getD, take, drop, length-drop, length-map, take-append-drop}
 use lib.Seq.{length-take-le, take-all, drop-length, drop-cons, drop-drop}
+use Rattle.paper.specs.Limits.{mostDepth}
 use Rattle.paper.specs.Formula.{ℓ, Formula, labels, Rising, WellFormed}
 use Rattle.paper.proofs.Lists.{of-any}
 use Rattle.paper.proofs.Labels.{alike-eq}
@@ -36,12 +37,12 @@ use Rattle.table.proofs.Laid.{Laid}
 record HeldBy (rows reads : List ℕ) (#N : ℕ) (f : Formula) : Type 0 where
   writes : Writes rows reads f 0 0
   many : size f ≡ #N
-  shallow : depth f ≤ 64
+  shallow : depth f ≤ mostDepth
   reads-are : takenReads f ≡ reads
   rows-are : take (4 * #N) rows ≡ rowsFrom f 0 0
 
 held-by : (rows reads : List ℕ) (#V #N : ℕ) → ((i : ℕ) → i < #N → keepsRules rows reads #V #N i ≡ true) → 0 < #N → 4 * #N ≤ length rows
-    → takenBefore rows #N ≡ length reads → first (isDeep rows) #N ≡ #N → HeldBy rows reads #N (formulaAt rows reads 64 0)
+    → takenBefore rows #N ≡ length reads → first (isDeep rows) #N ≡ #N → HeldBy rows reads #N (formulaAt rows reads mostDepth 0)
 held-by rows reads #V #N keep some room taken none-deep =
     let f = formulaAt rows reads #N 0 in
     let w = rules-write-whole rows reads #V #N keep #N some (omega arith) in
@@ -49,7 +50,7 @@ held-by rows reads #V #N keep some room taken none-deep =
     let n = w .many in
     let m = w .taken in
     let e : 4 * #N ≡ length (rowsFrom f 0 0) = omega (arith, length-rows f 0 0) in
-    rw (formula-read rows reads f 0 0 64 (w .writes) d)
+    rw (formula-read rows reads f 0 0 mostDepth (w .writes) d)
     (record {
       writes = w .writes;
       many = n;

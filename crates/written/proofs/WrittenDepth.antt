@@ -9,6 +9,7 @@ use mathlib.Core.Logic.{_↔_}
 use mathlib.Core.List.{List}
 use lib.ListN.{length, length-append}
 use borrow.Author.Tests.{ltb-false, le-ltb}
+use Rattle.paper.specs.Limits.{mostDepth}
 use Rattle.paper.proofs.Bools.{pick}
 use Rattle.paper.specs.Formula.{Star, Formula, Formulas, FALSE, test, candidate, conjunction, disjunction, exists, IF, only, _⨾_, labels, labelsOf}
 use Rattle.entries.specs.First.{first}
@@ -136,7 +137,7 @@ module _ (rows reads : List ℕ) where
         (then (levels f i t (w .0)) (levels-all fs (i + size f) (t + length (takenReads f)) (w .1)))
 
   -- no row is deeper than 64 exactly if the formula is not
-  pub written-depth : (f : Formula) (#N : ℕ) → Writes rows reads f 0 0 → size f ≡ #N → (first (isDeep rows) #N ≡ #N) ↔ (depth f ≤ 64)
+  pub written-depth : (f : Formula) (#N : ℕ) → Writes rows reads f 0 0 → size f ≡ #N → (first (isDeep rows) #N ≡ #N) ↔ (depth f ≤ mostDepth)
   unfolding roundOf
   written-depth f #N w e = (to, from)
     where
@@ -146,10 +147,10 @@ module _ (rows reads : List ℕ) where
       alone : Around rows 0 #N 0
       alone k from below = refl
 
-      to : first (isDeep rows) #N ≡ #N → depth f ≤ 64
+      to : first (isDeep rows) #N ≡ #N → depth f ≤ mostDepth
       to passed =
-          let z = whole .least 0 64 alone (omega arith) (λ j from below. ltb-false 64 (depthOf rows j) (first-all (isDeep rows) #N passed j below)) in
+          let z = whole .least 0 mostDepth alone (omega arith) (λ j from below. ltb-false mostDepth (depthOf rows j) (first-all (isDeep rows) #N passed j below)) in
           omega arith
 
-      from : depth f ≤ 64 → first (isDeep rows) #N ≡ #N
-      from h = first-none (isDeep rows) #N (λ j below. le-ltb 64 (depthOf rows j) (let z = whole .bound 0 alone j (omega arith) below in omega arith))
+      from : depth f ≤ mostDepth → first (isDeep rows) #N ≡ #N
+      from h = first-none (isDeep rows) #N (λ j below. le-ltb mostDepth (depthOf rows j) (let z = whole .bound 0 alone j (omega arith) below in omega arith))

@@ -5,6 +5,7 @@ use mathlib.Core.Path.{_≡_, _∙_}
 use mathlib.Core.Logic.{inl, inr}
 use lib.ListN.{length}
 use borrow.Author.Needs.{needs}
+use Rattle.paper.specs.Limits.{mostVariables}
 use Rattle.net.specs.Inside.Net.{Only, IndexWord}
 use Rattle.net.proofs.Notes.{only-none, only-more, only-then}
 use Rattle.net.proofs.Chains.{variableAt, Linked, linked-none, linked-more, linked-all, only-before}
@@ -52,7 +53,7 @@ module _ (c : tie.After-wide Inv-loop μ-loop) where
       c .wide .result ≡ variableAt (a .rows .now) (a .chosen .now) (l .loop .k - 1)
   of = c .wide .ensures ∙ c .before .arg-of .ensures
 
-  low : c .wide .result < 1024
+  low : c .wide .result < mostVariables
   low =
       let l = c .before .before .before .before in
       let e = of in

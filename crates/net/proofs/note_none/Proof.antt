@@ -7,6 +7,7 @@ use lib.ListN.{length, getD, take, set, length-set}
 use lib.Seq.{getD-set-same, getD-set-other, take-set-le}
 use borrow.Author.Needs.{needs}
 use borrow.Author.Count.{below-more}
+use Rattle.paper.specs.Limits.{mostVariables}
 use Rattle.net.specs.Inside.Net.{firstsFrom, netLength}
 use Rattle.net.proofs.note_none.Statement.{statement}
 use Rattle.net.proofs.note_none.Tie as tie
@@ -17,7 +18,7 @@ record Noted (none : ℕ) (old net : List ℕ) (v : ℕ) : Type 0 where
   same : take firstsFrom net ≡ take firstsFrom old
   noted : (u : ℕ) → u < v → getD net (firstsFrom + u) 0 ≡ none
 
-noted-more : (none : ℕ) (old net : List ℕ) (v : ℕ) → v < 1024 → Noted none old net v → Noted none old (set net (firstsFrom + v) none) (v + 1)
+noted-more : (none : ℕ) (old net : List ℕ) (v : ℕ) → v < mostVariables → Noted none old net v → Noted none old (set net (firstsFrom + v) none) (v + 1)
 noted-more none old net v h n = record {
   size = length-set net (firstsFrom + v) none ∙ n .size;
   same = take-set-le firstsFrom net (firstsFrom + v) none (omega arith) ∙ n .same;
@@ -28,10 +29,10 @@ noted-more none old net v h n = record {
 }
 
 abbrev Inv-loop : tie.InvT-loop
-Inv-loop none net₀ v₀ net v = (v ≤ 1024) × Noted none net₀ net v
+Inv-loop none net₀ v₀ net v = (v ≤ mostVariables) × Noted none net₀ net v
 
 abbrev μ-loop : tie.MeasureT-loop
-μ-loop none net₀ v₀ net v = 1024 - v
+μ-loop none net₀ v₀ net v = mostVariables - v
 
 loop-holds : tie.Need-loop-holds Inv-loop μ-loop
 loop-holds c = (omega arith, record { size = c .pre; same = refl; noted = λ u h. absurd (omega arith) })

@@ -1,6 +1,7 @@
 -- The marks of the chosen labels, and the keys of the whole formula: each is given what an accepted table has.
 use native.Mathlib.Omega.{arith}
 use borrow.Author.Needs.{needs}
+use Rattle.paper.specs.Limits.{mostRows}
 use Rattle.answers.proofs.Keeping.{parts-reached, rows-fit, lent-below, lent-walkable, based-so}
 use Rattle.answers.proofs.numbered.basis_of.Statement.{statement}
 use Rattle.answers.proofs.numbered.basis_of.Tie as tie
@@ -18,7 +19,7 @@ part-marks-of-end : tie.Need-part-marks-of-end
 part-marks-of-end c = search needs
 
 marks-of-requires : tie.Need-marks-of-requires
-marks-of-requires c κs = let e = c .before .before .before .pre in lent-below _ _ e 4096 (rows-fit _ _ e)
+marks-of-requires c κs = let e = c .before .before .before .pre in lent-below _ _ e mostRows (rows-fit _ _ e)
 
 mul-keys-of : tie.Need-mul-keys-of
 mul-keys-of c = let r = parts-reached _ _ (c .before .before .before .before .pre) in omega arith

@@ -12,6 +12,7 @@ use Rattle.rows.proofs.Rules.{rest}
 use Rattle.reader.specs.Reading.{behindRows}
 use Rattle.reader.proofs.Behind.{Passed, passes}
 use borrow.Author.Needs.{needs}
+use Rattle.paper.specs.Limits.{mostReads, mostVariables}
 use Rattle.reader.proofs.plain.behind_rows.Statement.{statement}
 use Rattle.reader.proofs.plain.behind_rows.Tie as tie
 
@@ -19,21 +20,21 @@ module _ (c : tie.After-first) where
   abbrev words : List ℕ
   words = now (c .before .before .before .before .before .args .words)
 
-  came-1 : openAt words start 1 1024 1 ≡ Next (c .first .given .0 .0)
-  came-1 = ap (λ d. openAt words d 1 1024 1) (sym (c .before .before .before .new .ensures)) ∙ sym (c .before .before .«open» .ensures) ∙ c .first .given .1
+  came-1 : openAt words start 1 mostVariables 1 ≡ Next (c .first .given .0 .0)
+  came-1 = ap (λ d. openAt words d 1 mostVariables 1) (sym (c .before .before .before .new .ensures)) ∙ sym (c .before .before .«open» .ensures) ∙ c .first .given .1
 
-  one : Passed words start (c .first .given .0 .0) 1024 1
-  one = passes words start _ 1 1024 1 came-1
+  one : Passed words start (c .first .given .0 .0) mostVariables 1
+  one = passes words start _ 1 mostVariables 1 came-1
 
 module _ (c : tie.After-second) where
   abbrev first-of : tie.After-first
   first-of = c .before .before .before .before .before
 
-  came-2 : let a = first-of .first .given .0 .0 in openAt (partAt (words first-of) a) a 0 8192 1 ≡ Next (c .second .given .0 .0)
+  came-2 : let a = first-of .first .given .0 .0 in openAt (partAt (words first-of) a) a 0 mostReads 1 ≡ Next (c .second .given .0 .0)
   came-2 = sym (simp rest at (c .before .before .«open2» .ensures)) ∙ c .second .given .1
 
-  two : Passed (words first-of) (first-of .first .given .0 .0) (c .second .given .0 .0) 8192 1
-  two = passes (words first-of) _ _ 0 8192 1 came-2
+  two : Passed (words first-of) (first-of .first .given .0 .0) (c .second .given .0 .0) mostReads 1
+  two = passes (words first-of) _ _ 0 mostReads 1 came-2
 
 new-requires : tie.Need-new-requires
 new-requires c κs = search needs

@@ -16,6 +16,7 @@ use Rattle.rows.proofs.Depths.{top-deep}
 use Rattle.sections.proofs.Opened.{Opening, opened-with, entries-there}
 use Rattle.sections.proofs.ThirdSection.{none-broken, walk-asks, taken-small, some-broken, some-left, some-deep, none-deep}
 use borrow.Author.Needs.{needs}
+use Rattle.paper.specs.Limits.{mostRows}
 use Rattle.sections.proofs.Cursor.rows.Statement.{statement}
 use Rattle.sections.proofs.Cursor.rows.Tie as tie
 
@@ -23,7 +24,7 @@ module _ (c : tie.After-opened) where
   abbrev part : List ℕ
   part = now (c .before .before .before .before .before .args .part)
 
-  opens : Opening part (c .before .before .before .before .before .args .self) 1 4096 4 (c .opened .given .0 .0)
+  opens : Opening part (c .before .before .before .before .before .args .self) 1 mostRows 4 (c .opened .given .0 .0)
   opens = opened-with _ _ _ _ _ (c .before .before .«open» .ensures) (c .opened .given .1)
 
   few-taken : (n : ℕ) → takenBefore (drop 1 part) n ≤ 65536 * n

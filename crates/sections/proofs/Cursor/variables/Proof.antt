@@ -6,10 +6,11 @@ use Rattle.sections.specs.Sections.{variablesAt}
 use Rattle.rows.proofs.Rules.{rest}
 use Rattle.sections.proofs.Opened.{Opening, opened-with, some-bad, none-bad, entries-there}
 use borrow.Author.Needs.{needs}
+use Rattle.paper.specs.Limits.{mostVariables}
 use Rattle.sections.proofs.Cursor.variables.Statement.{statement}
 use Rattle.sections.proofs.Cursor.variables.Tie as tie
 
-opens : (c : tie.After-opened) → let s = c .before .before .before .before .args in Opening (now (s .part)) (s .self) 1 1024 1 (c .opened .given .0 .0)
+opens : (c : tie.After-opened) → let s = c .before .before .before .before .args in Opening (now (s .part)) (s .self) 1 mostVariables 1 (c .opened .given .0 .0)
 opens c = opened-with _ _ _ _ _ (c .before .before .«open» .ensures) (c .opened .given .1)
 
 open-requires : tie.Need-open-requires
