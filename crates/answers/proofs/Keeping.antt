@@ -121,7 +121,8 @@ module _ (words : List ℕ) (a : Accepted) (e : AcceptedAs words a) where
         let s = is-strategy words a e in
         transition-says (l .variables) f A (u .well-formed) (s .homogeneous) (s .minimal) (u .within .chosen-ascend) k among
 
-    pub keepable : {marks out : List ℕ} {own : Distinct} → Based words l marks own → length out ≡ mostRows → Keepable lentRows marks out (l .rows) 0 mostDepth own k
+    pub keepable : {marks out : List ℕ} {own : Distinct} → Based words l marks own → length out ≡ mostRows
+        → Keepable lentRows marks out (l .rows) 0 mostDepth own k
     keepable {marks} {out} {own} b room =
         let s = is-strategy words a e in
         rw rows-lent

@@ -146,7 +146,8 @@ module _ (rows marks : List ℕ) (left i : ℕ) where
     pub keys-number : total (keysAt rows marks left i) ≤ mostTransitions → total (keysAt rows marks left i) ≡ numberOf A (formulaAt rows reads left i)
     keys-number h = ap total keys-are ∙ held-exact (keyCountOf A (formulaAt rows reads left i)) (subst (λ k. total k ≤ mostTransitions) keys-are h)
 
-    pub keys-number-within : numberOf A (formulaAt rows reads left i) ≤ mostTransitions → total (keysAt rows marks left i) ≡ numberOf A (formulaAt rows reads left i)
+    pub keys-number-within : numberOf A (formulaAt rows reads left i) ≤ mostTransitions
+        → total (keysAt rows marks left i) ≡ numberOf A (formulaAt rows reads left i)
     keys-number-within h = ap total keys-are ∙ held-within (keyCountOf A (formulaAt rows reads left i)) h
 
     pub keys-empty : keysAt rows marks left i .empty ≡ keyCountOf A (formulaAt rows reads left i) .empty

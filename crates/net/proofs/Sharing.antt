@@ -198,7 +198,8 @@ module _ (rows reads : List ℕ) where
 
     module _ (two : i ≡ j → ⊥) where
       mutual
-        parting : (f : Formula) (k t : ℕ) → Writes rows reads f k t → Among rows i k (size f) → Among rows j k (size f) → Parting rows i j (someBranchHolds f Two)
+        parting : (f : Formula) (k t : ℕ) → Writes rows reads f k t → Among rows i k (size f) → Among rows j k (size f)
+            → Parting rows i j (someBranchHolds f Two)
         parting (FALSE l) k t w a b = absurd (no-candidate (w .1) refl a)
         parting (test s) k t w a b = absurd (no-candidate (w .row-is) refl a)
         parting (candidate l v s) k t w a b = absurd (two (own-row (w .2) a ∙ sym (own-row (w .2) b)))

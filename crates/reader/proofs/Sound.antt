@@ -42,7 +42,8 @@ module _ (words : List ℕ) (l : Layout) (h : Laid words l) where
   opens-1 : openAt words start 1 mostVariables 1 ≡ Next a
   opens-1 =
       let all = h .all-words in
-      of-opened words start 1 mostVariables 1 (l .variables) (record { word = h .names .counted; least = h .names .some; most = h .names .most; room = omega arith })
+      of-opened words start 1 mostVariables 1 (l .variables)
+      (record { word = h .names .counted; least = h .names .some; most = h .names .most; room = omega arith })
 
   opens-2 : openAt (partAt words a) a 0 mostReads 1 ≡ Next b
   opens-2 =

@@ -83,7 +83,8 @@ module _ (#V : ℕ) (f : Formula) (A : List Label) (formed : WellFormed #V f) (h
     number-is : total (keysAt rows marks mostDepth 0) ≡ length (keys f A)
     number-is = keys-number-within rows marks mostDepth 0 A marked w reads (subst (λ n. n ≤ mostTransitions) count few) ∙ sym count
 
-    pub transition-keepable : (own : Distinct) → own ≡ keysAt rows marks mostDepth 0 → (out : List ℕ) → #N ≤ length out → Keepable rows marks out #N 0 mostDepth own k
+    pub transition-keepable : (own : Distinct) → own ≡ keysAt rows marks mostDepth 0 → (out : List ℕ) → #N ≤ length out
+        → Keepable rows marks out #N 0 mostDepth own k
     transition-keepable own own-are out room =
         let n = ap total own-are ∙ number-is in
         record { walkable = w; room = room; size = marked .size; own-are = own-are; few = omega arith; among = omega arith }

@@ -42,7 +42,8 @@ chosen-marked marks size = record { size = size; marks-are = are }
 
     are : (l : ℕ) → l < mostRows → isMarked marks l ≡ has (those p (labelsOn 0 mostRows)) (ℓ l)
     are l h =
-        same-answer (p (ℓ l)) (has (those p (labelsOn 0 mostRows)) (ℓ l)) (has-those p (labelsOn 0 mostRows) (ℓ l) (has-labels mostRows 0 l (omega arith) (omega arith)))
+        same-answer (p (ℓ l)) (has (those p (labelsOn 0 mostRows)) (ℓ l))
+        (has-those p (labelsOn 0 mostRows) (ℓ l) (has-labels mostRows 0 l (omega arith) (omega arith)))
         (λ t. those-has p (labelsOn 0 mostRows) (ℓ l) t .1)
 
 -- what is said of every strategy whose marks these are is said of the labels marked

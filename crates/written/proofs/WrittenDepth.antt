@@ -149,7 +149,8 @@ module _ (rows reads : List ℕ) where
 
       to : first (isDeep rows) #N ≡ #N → depth f ≤ mostDepth
       to passed =
-          let z = whole .least 0 mostDepth alone (omega arith) (λ j from below. ltb-false mostDepth (depthOf rows j) (first-all (isDeep rows) #N passed j below)) in
+          let z = whole .least 0 mostDepth alone (omega arith)
+          (λ j from below. ltb-false mostDepth (depthOf rows j) (first-all (isDeep rows) #N passed j below)) in
           omega arith
 
       from : depth f ≤ mostDepth → first (isDeep rows) #N ≡ #N

@@ -34,7 +34,8 @@ loop-holds : tie.Need-loop-holds Inv-loop μ-loop
 loop-holds c = writing-begins (c .nothing-yet .ensures) (sym (c .before .large-buffer .ensures))
 
 -- the next piece is one
-below : (c : tie.In-loop Inv-loop μ-loop) → c .before .loop .next < pieces (c .before .before .before .before .before .before .before .before .before .before .args .judged)
+below : (c : tie.In-loop Inv-loop μ-loop)
+    → c .before .loop .next < pieces (c .before .before .before .before .before .before .before .before .before .before .args .judged)
 below c =
     let pi = c .before .before .before .before in
     omega (arith, c .loop-test .taken, pi .pieces-of .ensures)

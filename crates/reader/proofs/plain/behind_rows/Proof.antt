@@ -21,7 +21,9 @@ module _ (c : tie.After-first) where
   words = now (c .before .before .before .before .before .args .words)
 
   came-1 : openAt words start 1 mostVariables 1 ≡ Next (c .first .given .0 .0)
-  came-1 = ap (λ d. openAt words d 1 mostVariables 1) (sym (c .before .before .before .new .ensures)) ∙ sym (c .before .before .«open» .ensures) ∙ c .first .given .1
+  came-1 =
+      ap (λ d. openAt words d 1 mostVariables 1) (sym (c .before .before .before .new .ensures))
+      ∙ sym (c .before .before .«open» .ensures) ∙ c .first .given .1
 
   one : Passed words start (c .first .given .0 .0) mostVariables 1
   one = passes words start _ 1 mostVariables 1 came-1
