@@ -8,7 +8,7 @@ use lib.Dec.{eqb, ltb, leb}
 use lib.ListN.{length, length-map}
 use borrow.Author.Tests.{leb-false}
 use Rattle.paper.specs.Limits.{mostRows}
-use Rattle.paper.specs.Refusals.{refusal}
+use Rattle.paper.specs.Refusals.{refusal, noSuchTransition, outTooShort, uneven}
 use Rattle.paper.specs.declared.Label.{Label}
 use Rattle.table.specs.declared.Layout.{Layout}
 use Rattle.strategy.specs.declared.Accepted.{Accepted}
@@ -27,7 +27,7 @@ use Rattle.answers.proofs.Keeping.{amounts}
 fit-short : (room : ℕ) (ws : List ℕ) → length ws ≤ mostRows → FitFilled (filledOf (unlessShort room ws))
 fit-short room ws h = go (ltb room (length ws))
   where
-    go : (t : Bool) → FitFilled (filledOf (cond t (refuses (refusal 16 (length ws))) (fills ws)))
+    go : (t : Bool) → FitFilled (filledOf (cond t (refuses (refusal outTooShort (length ws))) (fills ws)))
     go true = tt
     go false = h
 
@@ -35,7 +35,8 @@ fit-absent : (k count #V : ℕ) (key : List Label) (next : Outcome) → (k < cou
     → FitFilled (filledOf (unlessAbsent k count #V key next))
 fit-absent k count #V key next fits = go (leb count k) refl (eqb (length key) #V)
   where
-    go : (t : Bool) → leb count k ≡ t → (w : Bool) → FitFilled (filledOf (cond t (refuses (refusal 15 count)) (cond w next (refuses (refusal 18 k)))))
+    go : (t : Bool) → leb count k ≡ t → (w : Bool)
+        → FitFilled (filledOf (cond t (refuses (refusal noSuchTransition count)) (cond w next (refuses (refusal uneven k)))))
     go true e w = tt
     go false e true = let h = leb-false count k e in fits (omega arith)
     go false e false = tt

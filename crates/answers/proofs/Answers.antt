@@ -6,7 +6,7 @@ use mathlib.Core.List.{List}
 use lib.ListN.{length}
 use borrow.Author.Tests.{le-leb, lt-leb, eq-eqb, ne-eqb}
 use Rattle.paper.specs.declared.Refusal.{Refusal}
-use Rattle.paper.specs.Refusals.{refusal}
+use Rattle.paper.specs.Refusals.{refusal, noSuchTransition, uneven}
 use Rattle.table.specs.declared.Layout.{Layout}
 use Rattle.strategy.specs.declared.Accepted.{Accepted}
 use Rattle.strategy.specs.declared.Judged.{Judged}
@@ -29,12 +29,13 @@ module _ (words : List ℕ) (j : Judged) (answered : j ≡ judgedOf words) where
   accepted-first a e next f = rw (← answered, e) f
 
 module _ (what : List ℕ → Layout → ℕ → List ℕ) (words : List ℕ) (k : ℕ) (l : Layout) (count : ℕ) (lent : List ℕ) where
-  pub absent : {r : Filled} → count ≤ k → r ≡ filledOf (refuses (refusal 15 count)) → Fills (ofTransition what words k (length lent) l count) lent lent r
+  pub absent : {r : Filled} → count ≤ k → r ≡ filledOf (refuses (refusal noSuchTransition count))
+      → Fills (ofTransition what words k (length lent) l count) lent lent r
   unfolding ofTransition
   absent h e = rw (le-leb count k h) (record { answered = e; left-so = refl })
 
   module _ (there : k < count) (n : ℕ) (many : n ≡ length (keyOf words l k)) where
-    pub not-whole : {r : Filled} → (n ≡ l .variables → ⊥) → r ≡ filledOf (refuses (refusal 18 k))
+    pub not-whole : {r : Filled} → (n ≡ l .variables → ⊥) → r ≡ filledOf (refuses (refusal uneven k))
         → Fills (ofTransition what words k (length lent) l count) lent lent r
     unfolding ofTransition
     not-whole h e = rw (lt-leb count k there, ← many, ne-eqb n (l .variables) h) (record { answered = e; left-so = refl })

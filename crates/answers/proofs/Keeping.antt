@@ -14,9 +14,9 @@ use Rattle.paper.specs.Formula.{ℓ, has, Formula}
 use Rattle.paper.specs.Before.{before}
 use Rattle.paper.specs.Order.{OrderOf}
 use Rattle.paper.specs.Transition.{keys, isKept}
-use Rattle.paper.specs.Structure.Kept.{keptAt}
+use Rattle.paper.specs.Inside.Structure.Kept.{keptAt}
 use Rattle.paper.proofs.Bools.{same-answer}
-use Rattle.paper.proofs.Lists.{those-le}
+use Rattle.paper.proofs.Lists.{those-le, those-same}
 use Rattle.paper.proofs.Labels.{mem-has, has-mem}
 use Rattle.paper.proofs.Keys.{of-key, to-key}
 use Rattle.paper.proofs.Numbers.{numbers-say}
@@ -41,7 +41,7 @@ use Rattle.transitions.specs.Inside.Kept.{Keepable, MarkedKept}
 use Rattle.transitions.specs.Inside.Assigned.{keptOf, Fillable}
 use Rattle.transitions.specs.Statements.{kthBytes, TransitionSays}
 use Rattle.transitions.proofs.MarkedBytes.{length-bytes}
-use Rattle.transitions.proofs.Words.{those-same, kept-labels, as-many-ordered}
+use Rattle.transitions.proofs.Words.{kept-labels, as-many-ordered}
 use Rattle.transitions.proofs.Numbered.{transition-says, transition-keepable}
 use Rattle.answers.specs.Requests.{reported, keyOf, keptMarks, assignedOf}
 use Rattle.answers.specs.declared.numbered.Basis.{Basis}
@@ -151,7 +151,7 @@ module _ (words : List ℕ) (a : Accepted) (e : AcceptedAs words a) where
     assigned-length =
         length-map (those (has (keyOf words l k)) (reported words l)) (λ i. i .0)
         ∙ as-many-ordered (before f A) (has (keyOf words l k)) (u .within .chosen-ascend) is-order
-        ∙ ap length (those-same A (λ x t. sym (kept-in-key x (mem-has t)))
+        ∙ ap length (those-same _ _ A (λ x t. sym (kept-in-key x (mem-has t)))
         ∙ sym (kept-labels (has (keptAt A f k)) (l .rows) (chosenIn words l) chosen-below) ∙ says .chosen-are (l .rows) (chosenIn words l) refl chosen-below)
         ∙ says .key-has
 
@@ -206,7 +206,7 @@ module _ (words : List ℕ) (a : Accepted) (e : AcceptedAs words a) where
             (sym (map-back ℓ (λ (i : Label). i .0) (λ n. refl) (keptOf (kthBytes f A k (l .rows)) placed))
             ∙ ap (map (λ (i : Label). i .0))
             (kept-labels (has (keptAt A f k)) (l .rows) placed placed-below ∙ ap (those (has (keptAt A f k))) placed-labels
-            ∙ those-same (reported words l) (λ x t. kept-in-key x (is-order .from x (mem-has t)))))
+            ∙ those-same _ _ (reported words l) (λ x t. kept-in-key x (is-order .from x (mem-has t)))))
 
         -- what is left in words lent for them
         module _ (labels labels′ : List ℕ) (filled : ℕ) (n : filled ≡ length (keptOf (take (l .rows) left) placed))

@@ -16,7 +16,7 @@ use Rattle.written.specs.Tables.{formulaIn}
 use Rattle.filling.specs.Filling.{Outcome, refuses, unlessShort}
 use Rattle.strategy.specs.declared.Judged.{Judged}
 use Rattle.strategy.specs.declared.Judged.the-variants as judged
-use Rattle.strategy.specs.Judge.{judgedOf, proposalIn}
+use Rattle.strategy.specs.Judge.{judgedOf, orderIn, proposalIn}
 use Rattle.answers.specs.declared.Answer.{Answer}
 use Rattle.answers.specs.declared.Answer.the-variants as answer
 
@@ -53,7 +53,7 @@ abbrev pub unlessAbsent : ℕ → ℕ → ℕ → List Label → Outcome → Out
 unlessAbsent k count #V key next = cond (leb count k) (refuses (refusal noSuchTransition count)) (cond (eqb (length key) #V) next (refuses (refusal uneven k)))
 
 abbrev pub orderOutcome : List ℕ → ℕ → Layout → ℕ → Outcome
-orderOutcome words room l count = unlessShort room (map (λ i. i .0) (reported words l))
+orderOutcome words room l count = unlessShort room (orderIn words l)
 
 -- what is asked of transition k
 unfoldable pub ofTransition : (List ℕ → Layout → ℕ → List ℕ) → List ℕ → ℕ → ℕ → Layout → ℕ → Outcome

@@ -19,8 +19,8 @@ use Rattle.paper.specs.declared.Variable.{Variable}
 use Rattle.paper.specs.Lists.{those}
 use Rattle.paper.specs.Formula.{𝓋, has, alike, labels, WellFormed, Formula}
 use Rattle.paper.specs.Judgement.{Judgement, refuse, variables, missed, doubled}
-use Rattle.paper.specs.Structure.Fold.{foldOf}
-use Rattle.paper.specs.Structure.Cover.{Cover, cover, leafCover, unitCover, bothCover, joinCover, coverFold, coverOf}
+use Rattle.paper.specs.Inside.Structure.Fold.{foldOf}
+use Rattle.paper.specs.Inside.Structure.Cover.{Cover, cover, leafCover, unitCover, bothCover, joinCover, coverFold, coverOf}
 use Rattle.paper.proofs.Bools.{same-answer}
 use Rattle.paper.proofs.Lists.{those-append, to-those, of-those}
 use Rattle.paper.proofs.Variables.{to-variables}

@@ -183,7 +183,7 @@ fn lesser(a: u16, b: u16) -> u16
     if a < b { a } else { b }
 }
 
-// The lowest so far: `low` if it lies below v, else `found` places further on.
+// The lowest so far: `low` if it lies below v, else `found` further on.
 fn lower(low: u16, v: u16, found: u16) -> u16
     requires { ⌜ found + v < 65536 ⌝ }
     ensures { λ r. ⌜ r ≡ further low v found ⌝ }

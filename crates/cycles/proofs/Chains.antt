@@ -5,12 +5,12 @@ use mathlib.Core.Path.{_≡_, refl, sym, subst}
 use mathlib.Core.Bool.{Bool, true, _&&_}
 use mathlib.Core.Logic.{_⊎_, inl, inr}
 use mathlib.Core.List.{List, [], _∷_, List·Memᴰ, List·Memᴰ·head, List·Memᴰ·tail, List·Memᴰ·cases-cons, List·Memᴰ·not-nil}
+use Rattle.paper.proofs.UpTo.{in-upTo, of-upTo}
 use Rattle.paper.specs.Order.{leads}
 use Rattle.paper.proofs.Bools.{both, and-left, and-right, or-left, or-right, or-cases, pick}
 use Rattle.paper.specs.Lists.{upTo}
 use Rattle.fingers.specs.Inside.Graph.{Graph}
-use Rattle.cycles.specs.Inside.Path.{isOnRing, Trail, here, step}
-use Rattle.fingers.proofs.Kept.{in-upTo, of-upTo}
+use Rattle.cycles.specs.Inside.Path.{isCyclic, Trail, here, step}
 
 module _ (R : ℕ → ℕ → Bool) where
   leads-step : (ks : List ℕ) (i j : ℕ) → R i j ≡ true → leads R ks i j ≡ true
@@ -76,14 +76,14 @@ module _ (g : Graph) where
       go (inr l) (inr q) = inr (lead-trans i k j l (lead-step i k e) q)
 
   -- two indices that lead to one another are on a cycle; so is one that is before itself
-  pub ring-of : (i j : ℕ) → j < g .size → (i ≡ j → ⊥) → Trail g i j → Trail g j i → isOnRing g i ≡ true
-  unfolding isOnRing
-  ring-of i j h d s t =
+  pub cyclic-of : (i j : ℕ) → j < g .size → (i ≡ j → ⊥) → Trail g i j → Trail g j i → isCyclic g i ≡ true
+  unfolding isCyclic
+  cyclic-of i j h d s t =
       pick (chain-leads s) (λ e. absurd (d e)) (λ a. pick (chain-leads t) (λ e. absurd (d (sym e))) (λ b. lead-trans i j i h a b))
 
-  pub self-ring : (i : ℕ) → g .before i i ≡ true → isOnRing g i ≡ true
-  unfolding isOnRing
-  self-ring i e = lead-step i i e
+  pub cyclic-self : (i : ℕ) → g .before i i ≡ true → isCyclic g i ≡ true
+  unfolding isCyclic
+  cyclic-self i e = lead-step i i e
 
   -- the last step of what the test finds
   abbrev Ends : ℕ → ℕ → Type 0
@@ -100,6 +100,6 @@ module _ (g : Graph) where
       (λ q. ends-join i k j (more i k h (and-left (leads (g .before) ks i k) _ q))
       (more k j (all k (List·Memᴰ·head refl)) (and-right (leads (g .before) ks i k) _ q)))
 
-  pub of-ring : (i : ℕ) → i < g .size → isOnRing g i ≡ true → (x : ℕ) × (x < g .size) × Trail g i x × (g .before x i ≡ true)
-  unfolding isOnRing
-  of-ring i h e = leads-ends (upTo (g .size)) (of-upTo (g .size)) i i h e
+  pub of-cyclic : (i : ℕ) → i < g .size → isCyclic g i ≡ true → (x : ℕ) × (x < g .size) × Trail g i x × (g .before x i ≡ true)
+  unfolding isCyclic
+  of-cyclic i h e = leads-ends (upTo (g .size)) (of-upTo (g .size)) i i h e

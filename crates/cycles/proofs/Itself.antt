@@ -14,7 +14,7 @@ use Rattle.net.specs.Inside.Prior.{isFrozen, shareBranchIn, variableOf, prior}
 use Rattle.net.specs.Inside.Net.{guardsFrom}
 use Rattle.fingers.specs.Inside.Followable.{Followable}
 use Rattle.fingers.specs.Inside.Spots.{stopOf, readsAny, IsSpot, pending, After}
-use Rattle.fingers.proofs.Tests.{by, by-lt, never}
+use Rattle.paper.proofs.Tests.{by, by-lt, never}
 use Rattle.fingers.proofs.Guards.{the-guard}
 use Rattle.fingers.proofs.GoesOn.{Part, chained, readLater, readAround, parts, joins, some-star, stop-in, after-star, reads-none}
 use Rattle.fingers.proofs.Seeking.{own-in, own-star, from-in, all-frozen}

@@ -6,7 +6,7 @@ use mathlib.Core.List.{List}
 use lib.ListN.{length, getD, set, length-set}
 use lib.Seq.{getD-set-other}
 use Rattle.cycles.specs.Inside.Path.{Finished, Settled}
-use Rattle.fingers.proofs.Tests.{by-eq, at-set}
+use Rattle.paper.proofs.Tests.{by-eq, at-set}
 
 pub finish-none : (mark stack : List ℕ) (from : ℕ) → Finished mark stack from from mark
 finish-none mark stack from = record { size = refl; hit = λ p h u. absurd (omega arith); miss = λ i d. refl }

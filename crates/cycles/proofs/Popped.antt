@@ -8,12 +8,13 @@ use mathlib.Core.List.{List}
 use lib.Dec.{eqb}
 use lib.ListN.{length, getD}
 use borrow.Author.Tests.{ne-eqb}
+use Rattle.paper.proofs.UpTo.{of-upTo}
+use Rattle.paper.proofs.Lists.{those-same}
 use Rattle.paper.specs.Lists.{upTo}
 use Rattle.fingers.specs.Inside.Graph.{Graph, free, leftOf}
-use Rattle.cycles.specs.Inside.Path.{isOnRing, Trail, here, step, Walked, Best, Grown, Finished, Counted}
-use Rattle.fingers.proofs.Tests.{by-eq, by-lt}
-use Rattle.fingers.proofs.Kept.{of-upTo, those-same}
-use Rattle.cycles.proofs.Chains.{ring-of, of-ring}
+use Rattle.cycles.specs.Inside.Path.{isCyclic, Trail, here, step, Walked, Best, Grown, Finished, Counted}
+use Rattle.paper.proofs.Tests.{by-eq, by-lt}
+use Rattle.cycles.proofs.Chains.{cyclic-of, of-cyclic}
 use Rattle.cycles.proofs.Walks.{base, under-top}
 
 module _ (g : Graph) (mark stack bound finger : List ℕ) (len top at : ℕ) (P : Walked g mark stack bound finger len top at)
@@ -109,22 +110,22 @@ module _ (g : Graph) (mark stack bound finger : List ℕ) (len top at : ℕ) (P 
   apart : (p q : ℕ) → p < len → q < len → (p ≡ q → ⊥) → getD stack p 0 ≡ getD stack q 0 → ⊥
   apart p q hp hq d e = let a = P .on p hp .1 in let b = P .on q hq .1 in d (omega (arith, ap (λ (z : ℕ). getD mark z 0) e))
 
-  ring-with : (p q : ℕ) → p < len → base bound top ≤ p → q < len → base bound top ≤ q → (p ≡ q → ⊥) → isOnRing g (getD stack p 0) ≡ true
-  ring-with p q hp lp hq lq d = ring-of g (getD stack p 0) (getD stack q 0) (P .on q hq .0) (apart p q hp hq d) (across q p hq hp lp) (across p q hp hq lq)
+  cyclic-with : (p q : ℕ) → p < len → base bound top ≤ p → q < len → base bound top ≤ q → (p ≡ q → ⊥) → isCyclic g (getD stack p 0) ≡ true
+  cyclic-with p q hp lp hq lq d = cyclic-of g (getD stack p 0) (getD stack q 0) (P .on q hq .0) (apart p q hp hq d) (across q p hq hp lp) (across p q hp hq lq)
     where
       across : (p q : ℕ) → p < len → q < len → base bound top ≤ q → Trail g (getD stack q 0) (getD stack p 0)
       across p q hp hq lq = P .reach p q hp hq (λ k hk _. let u = under-top g mark stack bound finger len top at P k hk in omega arith)
 
-  ring-at : base bound top + 1 < len → (p : ℕ) → p < len → base bound top ≤ p → isOnRing g (getD stack p 0) ≡ true
-  ring-at m p hp lp =
-      by-eq p (base bound top) (λ e. ring-with p (base bound top + 1) hp lp m (omega arith) (λ q. omega arith))
-      (λ d. ring-with p (base bound top) hp lp b-in (omega arith) d)
+  cyclic-at : base bound top + 1 < len → (p : ℕ) → p < len → base bound top ≤ p → isCyclic g (getD stack p 0) ≡ true
+  cyclic-at m p hp lp =
+      by-eq p (base bound top) (λ e. cyclic-with p (base bound top + 1) hp lp m (omega arith) (λ q. omega arith))
+      (λ d. cyclic-with p (base bound top) hp lp b-in (omega arith) d)
 
   -- a single index of a segment is on a cycle only if it is before itself
   alone : (best : ℕ) → Best g mark best → len ≤ base bound top + 1 → (i : ℕ) → i < g .size → base bound top + 2 ≤ getD mark i 0 → (getD mark i 0 ≡ 1 → ⊥)
-      → isOnRing g i ≡ true → best ≤ i
+      → isCyclic g i ≡ true → best ≤ i
   alone best B m i hi l d y =
-      let (x, hx, s, r) = of-ring g i hi y in
+      let (x, hx, s, r) = of-cyclic g i hi y in
       by-eq (getD mark x 0) 1
       (λ one. absurd (d (done-back s hx one .1)))
       (λ e.
@@ -141,8 +142,8 @@ module _ (g : Graph) (mark stack bound finger : List ℕ) (len top at : ℕ) (P 
       many m = let s = c .many m in record {
         to = omega (arith, s .not-above, B .to);
         cyclic = λ l. by-eq r best
-            (λ e. subst (λ z. isOnRing g z ≡ true) (sym e) (B .cyclic (omega arith)))
-            (λ d. let o = s .one d in subst (λ z. isOnRing g z ≡ true) (sym (o .3)) (ring-at m (o .0) (o .1) (o .2)));
+            (λ e. subst (λ z. isCyclic g z ≡ true) (sym e) (B .cyclic (omega arith)))
+            (λ d. let o = s .one d in subst (λ z. isCyclic g z ≡ true) (sym (o .3)) (cyclic-at m (o .0) (o .1) (o .2)));
         self = λ i hi e. omega (arith, s .not-above, B .self i hi e);
         least = λ i hi e y. by-eq (getD mark i 0) 1
             (λ one. omega (arith, s .not-above, B .least i hi one y))

@@ -13,10 +13,10 @@ use Rattle.paper.proofs.Bools.{not-so}
 use Rattle.entries.specs.First.{first}
 use Rattle.entries.proofs.First.{first-found, first-none}
 use Rattle.fingers.specs.Inside.Graph.{Graph, Next, free, outside, leftOf, Started}
-use Rattle.cycles.specs.Inside.Path.{isOnRing, Trail, step, Walked, Best, weight, Grown, Finished, Counted, Merged, Stepped, Explored, Selfless}
-use Rattle.fingers.proofs.Tests.{by-eq, by-lt, never, at-set}
+use Rattle.cycles.specs.Inside.Path.{isCyclic, Trail, step, Walked, Best, weight, Grown, Finished, Counted, Merged, Stepped, Explored, Selfless}
+use Rattle.paper.proofs.Tests.{by-eq, by-lt, never, at-set}
 use Rattle.fingers.proofs.Left.{was-free, left-few}
-use Rattle.cycles.proofs.Chains.{self-ring}
+use Rattle.cycles.proofs.Chains.{cyclic-self}
 use Rattle.cycles.proofs.Walks.{base, outside-yes, turn, back, merge, push, leads-all, fewer-new, len-in}
 use Rattle.cycles.proofs.Popped.{pop, best-after, grown, same-left}
 
@@ -181,19 +181,19 @@ module _ (g : Graph) (root : ℕ) (mark stack bound finger : List ℕ) (P : Walk
 pub best-start : (g : Graph) (r : ℕ) → g .size < slots → Selfless g r → Best g (replicate slots 0) r
 best-start g r h s = record {
   to = s .to;
-  cyclic = λ l. self-ring g r (s .hit l);
+  cyclic = λ l. cyclic-self g r (s .hit l);
   self = λ i hi e. by-lt i r (λ l. never (g .before i i) e (s .none i l)) (λ l. l);
   least = λ i hi e y. absurd (omega (arith, getD-replicate {A = ℕ} slots i 0 0 (omega arith)));
 }
 
 -- when none is new, best is the lowest index on a cycle
 pub best-first : (g : Graph) (mark stack bound finger : List ℕ) (best : ℕ) → Walked g mark stack bound finger 0 0 0 → Best g mark best
-    → ((i : ℕ) → i < g .size → free mark i ≡ false) → best ≡ first (isOnRing g) (g .size)
+    → ((i : ℕ) → i < g .size → free mark i ≡ false) → best ≡ first (isCyclic g) (g .size)
 unfolding free
 best-first g mark stack bound finger best P B all =
     by-lt best (g .size)
-    (λ l. sym (first-found (isOnRing g) (g .size) best (λ k hk. none k (omega arith) hk) l (B .cyclic l)))
-    (λ l. let z = B .to in sym (first-none (isOnRing g) (g .size) (λ k hk. none k hk (omega arith)) ∙ omega arith))
+    (λ l. sym (first-found (isCyclic g) (g .size) best (λ k hk. none k (omega arith) hk) l (B .cyclic l)))
+    (λ l. let z = B .to in sym (first-none (isCyclic g) (g .size) (λ k hk. none k hk (omega arith)) ∙ omega arith))
   where
     done : (i : ℕ) → i < g .size → getD mark i 0 ≡ 1
     done i hi =
@@ -201,5 +201,5 @@ best-first g mark stack bound finger best P B all =
         (λ d. let t = two-up (getD mark i 0) (eqb-false (getD mark i 0) 0 (all i hi)) d in
         absurd (let o = P .off i hi (getD mark i 0 - 2) (omega arith) .0 in omega arith))
 
-    none : (k : ℕ) → k < g .size → k < best → isOnRing g k ≡ false
+    none : (k : ℕ) → k < g .size → k < best → isCyclic g k ≡ false
     none k hk l = not-so _ (λ e. let z = B .least k hk (done k hk) e in omega arith)

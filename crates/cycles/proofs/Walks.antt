@@ -11,7 +11,7 @@ use borrow.Author.Tests.{eq-eqb, ne-eqb, lt-ltb, le-ltb}
 use Rattle.paper.proofs.Bools.{both, and-left, and-right, not-so}
 use Rattle.fingers.specs.Inside.Graph.{Graph, Next, free, outside, leftOf}
 use Rattle.cycles.specs.Inside.Path.{Trail, here, step, Walked, Merged}
-use Rattle.fingers.proofs.Tests.{by, by-eq, by-lt, never, at-set}
+use Rattle.paper.proofs.Tests.{by, by-eq, by-lt, never, at-set}
 use Rattle.fingers.proofs.Left.{left-shorter}
 use Rattle.cycles.proofs.Chains.{chains-join}
 

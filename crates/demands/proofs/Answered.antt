@@ -9,13 +9,13 @@ use mathlib.Core.List.{List, map}
 use lib.Dec.{eqb, ltb, leb}
 use lib.ListN.{length}
 use Rattle.paper.specs.declared.Refusal.{Refusal}
-use Rattle.paper.specs.Refusals.{refusal}
+use Rattle.paper.specs.Refusals.{refusal, noSuchTransition, outTooShort, uneven}
 use Rattle.table.specs.declared.Layout.{Layout}
 use Rattle.strategy.specs.declared.Judged.{Judged}
 use Rattle.strategy.specs.declared.Judged.the-variants as judged
-use Rattle.strategy.specs.Judge.{judgedOf}
+use Rattle.strategy.specs.Judge.{judgedOf, orderIn}
 use Rattle.filling.specs.Filling.{Outcome, refuses, fills, unlessShort}
-use Rattle.answers.specs.Requests.{judgeOf, judgeAnswer, keyOf, keptMarks, assignedOf, reported, outcomeOf, ofTransition, orderOutcome}
+use Rattle.answers.specs.Requests.{judgeOf, judgeAnswer, keyOf, keptMarks, assignedOf, outcomeOf, ofTransition, orderOutcome}
 use Rattle.nocturenc.specs.Packed.{ReadRefusal, AnswerPacked, FillsPacked, packedAnswer, packedFilled}
 use Rattle.demands.specs.Allowed.{Request, OrderAnswers, TransitionAnswers, AssignmentsAnswers, refusalNumber}
 use Rattle.demands.specs.Demands.{JudgeGives, OrderGives, TransitionGives, IsAnswer, Answered, Demand1}
@@ -80,7 +80,7 @@ module _ (words : List ℕ) (Gives : ℕ → Type 0) (more : (n : ℕ) → Judge
 short-gives : (Gives : ℕ → Type 0) → Gives 16 → (room : ℕ) (ws : List ℕ) → OutcomeGives Gives (unlessShort room ws)
 short-gives Gives g room ws = go (ltb room (length ws))
   where
-    go : (b : Bool) → OutcomeGives Gives (cond b (refuses (refusal 16 (length ws))) (fills ws))
+    go : (b : Bool) → OutcomeGives Gives (cond b (refuses (refusal outTooShort (length ws))) (fills ws))
     go true = g
     go false = tt
 
@@ -89,7 +89,8 @@ transition-gives : (what : List ℕ → Layout → ℕ → List ℕ) (words : Li
 unfolding ofTransition
 transition-gives what words k room l count = go (leb count k) (eqb (length (keyOf words l k)) (l .variables))
   where
-    go : (a w : Bool) → OutcomeGives TransitionGives (cond a (refuses (refusal 15 count)) (cond w (unlessShort room (what words l k)) (refuses (refusal 18 k))))
+    go : (a w : Bool)
+        → OutcomeGives TransitionGives (cond a (refuses (refusal noSuchTransition count)) (cond w (unlessShort room (what words l k)) (refuses (refusal uneven k))))
     go true w = inr (inl refl)
     go false true = short-gives TransitionGives (inr (inr (inr refl))) room (what words l k)
     go false false = inr (inr (inl refl))
@@ -99,7 +100,7 @@ demand-1 = record {
   asks-nothing = asks-nothing;
   judge = λ words r p. judge-is-answer words r (judge-allows words p);
   order = λ words. answered words OrderGives (λ n g. inl g) (orderOutcome words)
-      (λ room l count. short-gives OrderGives (inr refl) room (map (λ i. i .0) (reported words l)))
+      (λ room l count. short-gives OrderGives (inr refl) room (orderIn words l))
       (OrderAnswers words) (λ lent left r q. order-allows words q);
   transition = λ words k. answered words TransitionGives (λ n g. inl g) (ofTransition keptMarks words k) (transition-gives keptMarks words k)
       (TransitionAnswers words k) (λ lent left r q. transition-allows words k q);

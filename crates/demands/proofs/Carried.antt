@@ -15,7 +15,7 @@ use Rattle.paper.specs.Order.{OrderOf}
 use Rattle.paper.specs.Strategy.{Strategy}
 use Rattle.paper.specs.Transition.{key, sameKey, class, keys}
 use Rattle.paper.proofs.Bools.{same-answer}
-use Rattle.paper.proofs.Lists.{of-those}
+use Rattle.paper.proofs.Lists.{of-those, those-same}
 use Rattle.paper.proofs.Labels.{mem-has}
 use Rattle.paper.proofs.Distinct.{sameKey-eq}
 use Rattle.paper.proofs.Keys.{of-key, to-key, to-class}
@@ -29,7 +29,6 @@ use Rattle.written.proofs.Words.{map-back}
 use Rattle.strategy.specs.declared.Accepted.{Accepted}
 use Rattle.strategy.specs.declared.Judged.the-variants as judged
 use Rattle.strategy.specs.Judge.{judgedOf}
-use Rattle.transitions.proofs.Words.{those-same}
 use Rattle.answers.specs.Requests.{judgeOf, orderOf, assignedOf, assignmentsOf}
 use Rattle.answers.proofs.Accepted.{is-understood, is-strategy, count-is}
 use Rattle.answers.proofs.Keeping.{amounts}
@@ -86,7 +85,7 @@ module _ (words : List ℕ) (a : Accepted) (e : judgedOf words ≡ judged.Accept
   on-branch k b m =
       let (u, s) = of-those (λ c. sameKey (key A c) (keyOf t k)) (branches f) m in
       let one-key = sameKey-eq (key A b) (keyOf t k) s in
-      those-same (reported t) (λ i q.
+      those-same _ _ (reported t) (λ i q.
       let chosen = is-order .from i (mem-has q) in
       same-answer (has (keyOf t k) i) (has b i) (λ h. of-key A b i (subst (λ j. has j i ≡ true) (sym one-key) h) .0)
       (λ h. subst (λ j. has j i ≡ true) one-key (to-key A b i h chosen)))

@@ -10,8 +10,7 @@ use lib.ListN.{length, getD}
 use Rattle.paper.specs.declared.Label.{Label}
 use Rattle.paper.specs.Formula.{has, labels, Rising, Formula}
 use Rattle.paper.specs.Branch.{branches}
-use Rattle.paper.specs.Transition.{key, isKept, keys, keyAt}
-use Rattle.paper.specs.Statements.{Ascending}
+use Rattle.paper.specs.Transition.{key, isKept, keys, keyAt, Ascending}
 use Rattle.paper.proofs.Bools.{same-answer}
 use Rattle.paper.proofs.Labels.{has-mem, sub-has, rising-ext, branch-sub}
 use Rattle.paper.proofs.Distinct.{isLower-irreflexive, keys-are-listed}

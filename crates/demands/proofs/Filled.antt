@@ -5,7 +5,7 @@ use mathlib.Core.List.{List, map}
 use lib.ListN.{length, take, drop}
 use lib.Seq.{take-append-seam, drop-append-seam}
 use borrow.Author.Tests.{le-ltb, lt-ltb, le-leb, lt-leb, eq-eqb}
-use Rattle.paper.specs.Refusals.{refusal}
+use Rattle.paper.specs.Refusals.{refusal, noSuchTransition, outTooShort}
 use Rattle.paper.specs.declared.Label.{Label}
 use Rattle.table.specs.declared.Layout.{Layout}
 use Rattle.strategy.specs.declared.Accepted.{Accepted}
@@ -41,7 +41,7 @@ module _ (words : List ℕ) (a : Accepted) (e : judgedOf words ≡ judged.Accept
   enough : (room : ℕ) (ws : List ℕ) → length ws ≤ room → unlessShort room ws ≡ fills ws
   enough room ws h = rw (le-ltb room (length ws) h)
 
-  short : (room : ℕ) (ws : List ℕ) → room < length ws → unlessShort room ws ≡ refuses (refusal 16 (length ws))
+  short : (room : ℕ) (ws : List ℕ) → room < length ws → unlessShort room ws ≡ refuses (refusal outTooShort (length ws))
   short room ws h = rw (lt-ltb room (length ws) h)
 
   abbrev order : List ℕ
@@ -51,7 +51,7 @@ module _ (words : List ℕ) (a : Accepted) (e : judgedOf words ≡ judged.Accept
   unfolding outcomeOf
   order-given room h = ap (λ j. outcomeOf j (orderOutcome words room)) e ∙ enough room order h
 
-  pub order-short : (room : ℕ) → room < length order → orderOf words room ≡ refuses (refusal 16 (length order))
+  pub order-short : (room : ℕ) → room < length order → orderOf words room ≡ refuses (refusal outTooShort (length order))
   unfolding outcomeOf
   order-short room h = ap (λ j. outcomeOf j (orderOutcome words room)) e ∙ short room order h
 
@@ -70,8 +70,8 @@ module _ (words : List ℕ) (a : Accepted) (e : judgedOf words ≡ judged.Accept
     pub transition-given : k < a .transitions → length (what words l k) ≤ room → outcome ≡ fills (what words l k)
     transition-given h g = present h ∙ enough room (what words l k) g
 
-    pub transition-short : k < a .transitions → room < length (what words l k) → outcome ≡ refuses (refusal 16 (length (what words l k)))
+    pub transition-short : k < a .transitions → room < length (what words l k) → outcome ≡ refuses (refusal outTooShort (length (what words l k)))
     transition-short h g = present h ∙ short room (what words l k) g
 
-    pub transition-absent : a .transitions ≤ k → outcome ≡ refuses (refusal 15 (a .transitions))
+    pub transition-absent : a .transitions ≤ k → outcome ≡ refuses (refusal noSuchTransition (a .transitions))
     transition-absent h = decided ∙ rw (le-leb (a .transitions) k h)

@@ -3,6 +3,7 @@
 use Prim.Native.Nat.{ℕ, _≤_}
 use native.Mathlib.Omega.{arith}
 use mathlib.Core.Path.{_≡_, refl, sym, ap, subst, _∙_}
+use mathlib.Core.Bool.{false≢true}
 use mathlib.Core.List.{List}
 use lib.ListN.{length, length-map}
 use Rattle.paper.specs.Limits.{mostTransitions}
@@ -25,7 +26,7 @@ use Rattle.answers.specs.Requests.{judgeOf, judgeAnswer}
 use Rattle.answers.proofs.Accepted.{is-sound, is-understood, is-strategy, count-is}
 use Rattle.nocturenc.specs.Packed.{AnswerPacked}
 use Rattle.demands.specs.Allowed.{refusalNumber}
-use Rattle.demands.specs.Demands.{Acceptable, Counts, JudgedExactly}
+use Rattle.demands.specs.Demands.{JudgeGives, Acceptable, Counts, JudgedExactly}
 use Rattle.demands.proofs.RefusalNumbers.{refused-number}
 
 -- what an accepted answer says of the judgement
@@ -35,7 +36,7 @@ is-accepted words r p z = go (judgedOf words) refl p
   where
     go : (j : Judged) → judgedOf words ≡ j → AnswerPacked (judgeAnswer j) r → (a : Accepted) × (judgedOf words ≡ judged.Accepted a)
     go (judged.Accepted a) e p = (a, e)
-    go (judged.Refused x) e p = let n = p .read-so .number-is in let g = refused-number words x e .0 in absurd (omega arith)
+    go (judged.Refused x) e p = absurd (false≢true (subst JudgeGives (sym (p .read-so .number-is) ∙ z) (refused-number words x e)))
 
 abbrev layoutOr : Checked → Layout → Layout
 layoutOr (Sound l) other = l

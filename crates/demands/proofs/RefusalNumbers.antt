@@ -1,13 +1,13 @@
 -- Which refusal numbers the judgement gives: a table's own checks give 1 to 9, and the checks of the proposal 10 to 14.
 use Prim.Native.Nat.{ℕ, _-_, _*_}
-use native.Mathlib.Omega.{arith}
-use mathlib.Core.Path.{_≡_, subst}
+use mathlib.Core.Path.{_≡_, refl, subst}
 use mathlib.Core.Bool.{Bool, true, false, cond, _||_}
 use mathlib.Core.List.{List, [], _∷_, map}
 use lib.Dec.{ltb, eqb}
 use lib.ListN.{length, getD, drop}
 use Rattle.paper.specs.declared.Refusal.{Refusal}
-use Rattle.paper.specs.Refusals.{refusal}
+use Rattle.paper.specs.Refusals.{refusal, noCandidate, noOrder, tooMany, variableMissed, variableTwice, absent, countOutOfRange}
+use Rattle.paper.specs.Refusals.{entryUnfit, nameNotAbove, readBeyond, readsLeft, rowBroken, tooDeep, wordsFollow}
 use Rattle.paper.specs.declared.Label.{Label}
 use Rattle.paper.specs.Formula.{Formula, labels}
 use Rattle.paper.specs.Limits.{mostTransitions, mostChosen, mostReads, mostRows, mostVariables}
@@ -49,35 +49,35 @@ check b number place next g h = gives-or b (halt number place) next g h
 open-gives : (part : List ℕ) (c : Cursor) (low high width : ℕ) → StepGives (openAt part c low high width)
 unfolding openAt
 open-gives part c low high width =
-    check (eqb (length part) 0) 1 _ _ (omega arith, omega arith)
-    (check (ltb (getD part 0 0) low || ltb high (getD part 0 0)) 2 _ _ (omega arith, omega arith)
-    (check (ltb (length part - 1) (getD part 0 0 * width)) 1 _ _ (omega arith, omega arith) tt))
+    check (eqb (length part) 0) absent _ _ refl
+    (check (ltb (getD part 0 0) low || ltb high (getD part 0 0)) countOutOfRange _ _ refl
+    (check (ltb (length part - 1) (getD part 0 0 * width)) absent _ _ refl tt))
 
 variables-give : (part : List ℕ) (c : Cursor) → StepGives (variablesAt part c)
 unfolding variablesAt
 variables-give part c = gives-then (openAt part c 1 mostVariables 1) _ (open-gives part c 1 mostVariables 1) (λ d.
-    check (ltb (first (falls (drop 1 part)) (d .count)) (d .count)) 4 _ _ (omega arith, omega arith) tt)
+    check (ltb (first (falls (drop 1 part)) (d .count)) (d .count)) nameNotAbove _ _ refl tt)
 
 reads-give : (part : List ℕ) (c : Cursor) → StepGives (readsAt part c)
 unfolding readsAt
 reads-give part c = gives-then (openAt part c 0 mostReads 1) _ (open-gives part c 0 mostReads 1) (λ d.
-    check (ltb (first (beyond (drop 1 part) (c .variables)) (d .count)) (d .count)) 5 _ _ (omega arith, omega arith) tt)
+    check (ltb (first (beyond (drop 1 part) (c .variables)) (d .count)) (d .count)) readBeyond _ _ refl tt)
 
 rows-give : (part reads : List ℕ) (c : Cursor) → StepGives (rowsAt part reads c)
 unfolding rowsAt
 rows-give part reads c = gives-then (openAt part c 1 mostRows 4) _ (open-gives part c 1 mostRows 4) (λ d.
-    check (ltb (first (breaksRules (drop 1 part) reads (c .variables) (d .count)) (d .count)) (d .count)) 6 _ _ (omega arith, omega arith)
-    (check (ltb (takenBefore (drop 1 part) (d .count)) (c .reads)) 7 _ _ (omega arith, omega arith)
-    (check (ltb (first (isDeep (drop 1 part)) (d .count)) (d .count)) 8 _ _ (omega arith, omega arith) tt)))
+    check (ltb (first (breaksRules (drop 1 part) reads (c .variables) (d .count)) (d .count)) (d .count)) rowBroken _ _ refl
+    (check (ltb (takenBefore (drop 1 part) (d .count)) (c .reads)) readsLeft _ _ refl
+    (check (ltb (first (isDeep (drop 1 part)) (d .count)) (d .count)) tooDeep _ _ refl tt)))
 
 strategy-gives : (part : List ℕ) (c : Cursor) → StepGives (strategyAt part c)
 unfolding strategyAt
 strategy-gives part c = gives-then (openAt part c 0 mostChosen 1) _ (open-gives part c 0 mostChosen 1) (λ d.
-    check (ltb (first (λ k. beyond (drop 1 part) (c .rows) k || falls (drop 1 part) k) (d .count)) (d .count)) 9 _ _ (omega arith, omega arith) tt)
+    check (ltb (first (λ k. beyond (drop 1 part) (c .rows) k || falls (drop 1 part) k) (d .count)) (d .count)) entryUnfit _ _ refl tt)
 
 end-gives : (present : ℕ) (c : Cursor) → StepGives (endAt present c)
 unfolding endAt
-end-gives present c = check (ltb (c .at) present) 3 _ _ (omega arith, omega arith) tt
+end-gives present c = check (ltb (c .at) present) wordsFollow _ _ refl tt
 
 sections-give : (words : List ℕ) → StepGives (sections words)
 unfolding sections
@@ -99,13 +99,13 @@ refuse-gives number (place ∷ others) next g h = g
 
 judge-gives : (#V : ℕ) (f : Formula) (A : List Label) → JudgementGives (judge #V f A)
 judge-gives #V f A =
-    refuse-gives 10 (map (λ l. l .0) (strangers f A)) _ (omega arith, omega arith)
-    (refuse-gives 11 (map (λ v. v .0) (missed #V f A)) _ (omega arith, omega arith)
-    (refuse-gives 12 (map (λ v. v .0) (doubled #V f A)) _ (omega arith, omega arith)
-    (refuse-gives 13 (map (λ l. l .0) (onCycles f A)) _ (omega arith, omega arith) (last (ltb mostTransitions (length (keys f A)))))))
+    refuse-gives noCandidate (map (λ l. l .0) (strangers f A)) _ refl
+    (refuse-gives variableMissed (map (λ v. v .0) (missed #V f A)) _ refl
+    (refuse-gives variableTwice (map (λ v. v .0) (doubled #V f A)) _ refl
+    (refuse-gives noOrder (map (λ l. l .0) (onCycles f A)) _ refl (last (ltb mostTransitions (length (keys f A)))))))
   where
-    last : (b : Bool) → JudgementGives (cond b (refused (refusal 14 0)) (accepted #V (length (labels f)) (length A) (length (keys f A))))
-    last true = (omega arith, omega arith)
+    last : (b : Bool) → JudgementGives (cond b (refused (refusal tooMany 0)) (accepted #V (length (labels f)) (length A) (length (keys f A))))
+    last true = refl
     last false = tt
 
 -- an answer to words

@@ -3,20 +3,22 @@
 -- (crates/written/specs/Written.antt). proofs/Demands.antt proves `Demand1`, `Demand2` and `Demand3`.
 use Prim.Native.Nat.{ℕ, _+_, _*_, _^_, _<_, _≤_}
 use mathlib.Core.Path.{_≡_}
-use mathlib.Core.Bool.{cond}
+use mathlib.Core.Bool.{true, cond}
 use mathlib.Core.Logic.{_↔_, _⊎_}
-use mathlib.Core.List.{List, map, List·Memᴰ}
+use mathlib.Core.List.{List, [], _∷_, map, List·Memᴰ}
+use lib.Dec.{eqb}
 use lib.ListN.{length, take, drop}
 use Rattle.paper.specs.Limits.{mostTransitions}
 use Rattle.paper.specs.declared.Label.{Label}
-use Rattle.paper.specs.Lists.{those}
+use Rattle.paper.specs.Refusals.{absent, countOutOfRange, nameNotAbove, readBeyond, rowBroken, readsLeft, tooDeep, entryUnfit, wordsFollow}
+use Rattle.paper.specs.Refusals.{noCandidate, variableMissed, variableTwice, noOrder, tooMany, noSuchTransition, uneven, outTooShort}
+use Rattle.paper.specs.Lists.{anyOf, those}
 use Rattle.paper.specs.Formula.{ℓ, has, Formula, labels}
 use Rattle.paper.specs.Branch.{branches}
 use Rattle.paper.specs.Strategy.{Strategy, reportedOrder}
-use Rattle.paper.specs.Transition.{sliceBy, class, isKept, keys, keyAt, transition}
+use Rattle.paper.specs.Transition.{sliceBy, class, isKept, keys, keyAt, transition, KeysAreListed}
 use Rattle.paper.specs.Meaning.{Meaning, True}
 use Rattle.paper.specs.Carry.{Carried, unset}
-use Rattle.paper.specs.Statements.{KeysAreListed}
 use Rattle.written.specs.Written.{Table, Within, written}
 use Rattle.marks.specs.Marks.{isMarked}
 use Rattle.demands.specs.Allowed.{JudgeAnswers, Request, OrderAnswers, TransitionAnswers, AssignmentsAnswers, AsksNothing}
@@ -26,14 +28,19 @@ use Rattle.demands.specs.Allowed.{refusalNumber, refusalPlace, variableC
 
 -- The refusal numbers that a request can give (document 01: "15 to 18 come only from the requests that they name"). 17 is the
 -- lister's.
+abbrev pub judgeNumbers : List ℕ
+judgeNumbers =
+    absent ∷ countOutOfRange ∷ nameNotAbove ∷ readBeyond ∷ rowBroken ∷ readsLeft ∷ tooDeep ∷ entryUnfit ∷ wordsFollow
+    ∷ noCandidate ∷ variableMissed ∷ variableTwice ∷ noOrder ∷ tooMany ∷ []
+
 abbrev pub JudgeGives : ℕ → Type 0
-JudgeGives n = (1 ≤ n) × (n ≤ 14)
+JudgeGives n = anyOf (eqb n) judgeNumbers ≡ true
 
 abbrev pub OrderGives : ℕ → Type 0
-OrderGives n = JudgeGives n ⊎ (n ≡ 16)
+OrderGives n = JudgeGives n ⊎ (n ≡ outTooShort)
 
 abbrev pub TransitionGives : ℕ → Type 0
-TransitionGives n = JudgeGives n ⊎ ((n ≡ 15) ⊎ ((n ≡ 18) ⊎ (n ≡ 16)))
+TransitionGives n = JudgeGives n ⊎ ((n ≡ noSuchTransition) ⊎ ((n ≡ uneven) ⊎ (n ≡ outTooShort)))
 
 -- the answer is an acceptance, or a refusal's number and place and nothing beside them
 abbrev pub IsAnswer : (ℕ → Type 0) → ℕ → Type 0
@@ -125,8 +132,9 @@ pub record TransitionsListed (words : List ℕ) (r : ℕ) (t : Table) : Type 0 w
   pub differ : (j k : ℕ) → j < transitionCount r → k < transitionCount r → (bytes : List ℕ) → IsTransition t j bytes → IsTransition t k bytes → j ≡ k
   pub stands : (b : List Label) → List·Memᴰ b (branches (t .formula))
       → (k : ℕ) × (k < transitionCount r) × List·Memᴰ b (class (t .formula) (t .strategy) (keyOf t k))
-  pub no-more : (k : ℕ) → transitionCount r ≤ k → (lent : List ℕ) → Refuses (TransitionAnswers words k) 15 (transitionCount r) lent
-  pub too-short : (k : ℕ) → k < transitionCount r → (lent : List ℕ) → length lent < rowCount r → Refuses (TransitionAnswers words k) 16 (rowCount r) lent
+  pub no-more : (k : ℕ) → transitionCount r ≤ k → (lent : List ℕ) → Refuses (TransitionAnswers words k) noSuchTransition (transitionCount r) lent
+  pub too-short : (k : ℕ) → k < transitionCount r → (lent : List ℕ) → length lent < rowCount r
+      → Refuses (TransitionAnswers words k) outTooShort (rowCount r) lent
 
 pub record Demand2 : Type 0 where
   pub judged : (words : List ℕ) (r : ℕ) → JudgeAnswers words r → JudgedExactly words r
@@ -136,12 +144,12 @@ pub record Demand2 : Type 0 where
 -- are the chosen labels of each branch of class k, and are carried out. Every branch is of some such class (`stands`).
 pub record CarriedOut (words : List ℕ) (r : ℕ) (t : Table) : Type 0 where
   pub ordered : (lent : List ℕ) → chosenCount r ≤ length lent → Fills (OrderAnswers words) (chosenCount r) (λ ws. map ℓ ws ≡ reported t) lent
-  pub order-too-short : (lent : List ℕ) → length lent < chosenCount r → Refuses (OrderAnswers words) 16 (chosenCount r) lent
+  pub order-too-short : (lent : List ℕ) → length lent < chosenCount r → Refuses (OrderAnswers words) outTooShort (chosenCount r) lent
   pub assigned : (k : ℕ) → k < transitionCount r → (lent : List ℕ) → variableCount r ≤ length lent
       → Fills (AssignmentsAnswers words k) (variableCount r) (IsAssignments t k) lent
-  pub no-more : (k : ℕ) → transitionCount r ≤ k → (lent : List ℕ) → Refuses (AssignmentsAnswers words k) 15 (transitionCount r) lent
+  pub no-more : (k : ℕ) → transitionCount r ≤ k → (lent : List ℕ) → Refuses (AssignmentsAnswers words k) noSuchTransition (transitionCount r) lent
   pub too-short : (k : ℕ) → k < transitionCount r → (lent : List ℕ) → length lent < variableCount r
-      → Refuses (AssignmentsAnswers words k) 16 (variableCount r) lent
+      → Refuses (AssignmentsAnswers words k) outTooShort (variableCount r) lent
 
 -- Demand 3, second half: under every meaning the formula is true exactly if, for some k below the count, its slice by the bytes that
 -- the transition request leaves for k is true (Theorem 2). `left k` is what it leaves of the slice `lent k`, which has room.

@@ -8,7 +8,7 @@ use mathlib.Core.List.{List, _++_}
 use lib.ListN.{length, getD, take, drop, set, length-set}
 use lib.Seq.{drop-cons, take-suc, set-at, append-snoc, take-all, length-take-le}
 use borrow.Author.Tests.{lt-ltb, le-ltb}
-use Rattle.paper.specs.Refusals.{refusal}
+use Rattle.paper.specs.Refusals.{refusal, outTooShort}
 use Rattle.entries.specs.Front.{inFront}
 use Rattle.filling.specs.declared.Filled.{Filled}
 use Rattle.filling.specs.declared.Filled.the-variants as filled
@@ -54,7 +54,7 @@ module _ (from : List ℕ) (count : ℕ) (lent : List ℕ) where
   copy-ends out i h c = let e : i ≡ count = omega arith in c .stands ∙ ap (λ (n : ℕ). copied from n lent) e
 
 module _ (from lent : List ℕ) (count : ℕ) (there : count ≤ length from) where
-  pub too-short : {r : Filled} → length lent < count → r ≡ filledOf (refuses (refusal 16 count))
+  pub too-short : {r : Filled} → length lent < count → r ≡ filledOf (refuses (refusal outTooShort count))
       → Fills (unlessShort (length lent) (take count from)) lent lent r
   too-short h e = rw (length-take-le count from there, lt-ltb (length lent) count h) (record { answered = e; left-so = refl })
 

@@ -10,7 +10,7 @@ use borrow.Author.Tests.{eq-eqb, ne-eqb}
 use Rattle.fingers.specs.declared.Moved.{Moved}
 use Rattle.fingers.specs.Inside.Followable.{Followable}
 use Rattle.fingers.specs.Inside.Spots.{stopOf, packed, ahead, calls, spotAfter, soughtWithin, soughtFrom, IsSpot, After}
-use Rattle.fingers.proofs.Tests.{by, by-eq, by-lt}
+use Rattle.paper.proofs.Tests.{by, by-eq, by-lt}
 use Rattle.fingers.proofs.GoesOn.{ahead-is, after-index, after-read, after-star}
 
 module _ (rows reads chosen : List ℕ) where

@@ -20,7 +20,7 @@ use Rattle.net.specs.Inside.Prior.{starReads, around, variableOf}
 use Rattle.net.specs.Inside.Net.{firstWith, guardsFrom, nextsFrom, firstsFrom}
 use Rattle.fingers.specs.Inside.Followable.{Followable}
 use Rattle.fingers.specs.Inside.Spots.{stopOf, readsAny, packed, pending, ahead, spotAfter, IsSpot, After}
-use Rattle.fingers.proofs.Tests.{by-eq, by-lt, never}
+use Rattle.paper.proofs.Tests.{by-eq, by-lt, never}
 use Rattle.fingers.proofs.Guards.{Innermost, no-guard, the-guard}
 
 -- the first index of a variable from k on

@@ -7,6 +7,7 @@ use mathlib.Core.Bool.{true, false, _&&_, _||_}
 use mathlib.Core.List.{List}
 use lib.Dec.{ltb}
 use borrow.Author.Tests.{ltb-true, lt-ltb}
+use Rattle.paper.proofs.UpTo.{in-upTo, of-upTo}
 use Rattle.paper.specs.Lists.{anyOf}
 use Rattle.paper.proofs.Bools.{both, and-left, and-right, or-left, or-right, or-cases, not-so, same-answer, pick}
 use Rattle.paper.proofs.Lists.{to-any, of-any}
@@ -16,8 +17,7 @@ use Rattle.rows.specs.Inside.Tree.{isGuarded, guardOf}
 use Rattle.net.specs.Inside.Prior.{starReads, around, isFrozen}
 use Rattle.net.specs.Inside.Net.{Tree}
 use Rattle.paper.proofs.Last.{Last, last-of}
-use Rattle.fingers.proofs.Tests.{by, by-eq, by-lt, never}
-use Rattle.fingers.proofs.Kept.{in-upTo, of-upTo}
+use Rattle.paper.proofs.Tests.{by, by-eq, by-lt, never}
 
 -- row a is an exists or an IF, and row i lies under it, past its star
 record Guarding (rows : List ℕ) (a i : ℕ) : Type 0 where

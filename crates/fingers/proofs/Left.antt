@@ -8,13 +8,13 @@ use lib.Dec.{eqb}
 use lib.ListN.{length, getD, set}
 use lib.Seq.{getD-set-same, getD-set-other}
 use borrow.Author.Tests.{eq-eqb, ne-eqb}
+use Rattle.paper.proofs.UpTo.{in-upTo, length-upTo}
 use Rattle.paper.specs.Lists.{those}
 use Rattle.paper.proofs.Bools.{and-left}
-use Rattle.paper.proofs.Lists.{those-le, those-lt, to-those}
+use Rattle.paper.proofs.Lists.{those-le, those-lt, to-those, those-those, those-same}
 use Rattle.paper.specs.Lists.{upTo}
 use Rattle.fingers.specs.Inside.Graph.{free, leftOf}
-use Rattle.fingers.proofs.Tests.{by-eq}
-use Rattle.fingers.proofs.Kept.{in-upTo, length-upTo, those-those, those-same}
+use Rattle.paper.proofs.Tests.{by-eq}
 
 pub left-few : (n : ℕ) (mark : List ℕ) → 0 + length (leftOf n mark) ≤ n
 unfolding leftOf

@@ -1,5 +1,3 @@
-pub mod Tests
-pub mod Kept
 pub mod Left
 pub mod Guards
 pub mod GoesOn

@@ -10,7 +10,7 @@ use borrow.Author.Tests.{eq-eqb, ne-eqb, lt-ltb, le-ltb}
 use Rattle.net.specs.Inside.Prior.{shareBranchIn}
 use Rattle.net.specs.Inside.Net.{Cleared}
 use Rattle.fingers.specs.Inside.Spots.{calls, Apart, Looked}
-use Rattle.fingers.proofs.Tests.{by-eq}
+use Rattle.paper.proofs.Tests.{by-eq}
 
 module _ (rows chosen : List ℕ) (j : ℕ) where
   pub look-known : (k from to : ℕ) → Apart rows chosen j from to → from ≤ getD chosen k 0 → getD chosen k 0 < to

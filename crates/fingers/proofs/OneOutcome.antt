@@ -6,7 +6,7 @@ use lib.ListN.{length}
 use Rattle.paper.specs.Outcome.{OneOutcome}
 use Rattle.paper.proofs.Outcome.{by-equation, by-entries}
 use Rattle.fingers.specs.Inside.Spots.{AtStart}
-use Rattle.fingers.proofs.Tests.{by-lt}
+use Rattle.paper.proofs.Tests.{by-lt}
 use Rattle.fingers.proofs as fingers
 
 one-start : (rows chosen old xs ys : List ℕ) → AtStart rows chosen (length chosen) old xs → AtStart rows chosen (length chosen) old ys → xs ≡ ys

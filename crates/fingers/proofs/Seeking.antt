@@ -15,7 +15,7 @@ use Rattle.net.specs.Inside.Prior.{isFrozen, variableOf, prior}
 use Rattle.fingers.specs.Inside.Followable.{Followable}
 use Rattle.fingers.specs.Inside.Graph.{Graph, Next, free, outside, Started}
 use Rattle.fingers.specs.Inside.Spots.{packed, calls, startOf, AtStart, pending, After, SpotOf, Sought, passedOf, fingerOf, graphOf, Answered}
-use Rattle.fingers.proofs.Tests.{by, by-eq, never, at-set}
+use Rattle.paper.proofs.Tests.{by, by-eq, never, at-set}
 use Rattle.fingers.proofs.Guards.{frozen-is}
 use Rattle.fingers.proofs.GoesOn.{chained, joins, some-star, opened}
 use Rattle.fingers.proofs.Finding.{found-none, found-here, found-later}

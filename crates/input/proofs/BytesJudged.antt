@@ -5,14 +5,14 @@ use mathlib.Core.List.{List}
 use lib.ListN.{length}
 use borrow.Author.Tests.{eq-eqb, ne-eqb}
 use Rattle.paper.specs.declared.Refusal.{Refusal}
-use Rattle.paper.specs.Refusals.{refusal}
+use Rattle.paper.specs.Refusals.{refusal, oddBytes}
 use Rattle.strategy.specs.declared.Judged.{Judged}
 use Rattle.strategy.specs.declared.Judged.the-variants as judged
 use Rattle.strategy.specs.Judge.{orderLeft, JudgedInto}
 use Rattle.input.specs.Bytes.{wordsOf, judgedBytes, orderLeftOf, JudgedBytes}
 
 module _ {bytes lent : List ℕ} where
-  pub odd-judged : {x : Refusal} → length bytes % 2 ≡ 1 → x ≡ refusal 17 (length bytes / 2) → JudgedBytes bytes lent lent (judged.Refused x)
+  pub odd-judged : {x : Refusal} → length bytes % 2 ≡ 1 → x ≡ refusal oddBytes (length bytes / 2) → JudgedBytes bytes lent lent (judged.Refused x)
   unfolding judgedBytes orderLeftOf
   odd-judged odd e = let is-odd = eq-eqb (length bytes % 2) 1 odd in rw e (record { answered = rw is-odd; left-so = rw is-odd })
 

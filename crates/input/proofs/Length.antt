@@ -7,6 +7,7 @@ use mathlib.Core.Bool.{Bool, true, false, cond}
 use mathlib.Core.List.{List}
 use lib.ListN.{length, length-append}
 use borrow.Author.Tests.{eqb-false}
+use Rattle.paper.specs.Refusals.{oddBytes}
 use Rattle.paper.specs.declared.Refusal.{Refusal}
 use Rattle.written.proofs.Tables.{understood}
 use Rattle.strategy.specs.declared.Judged.{Judged}
@@ -37,11 +38,11 @@ unfolding judgedBytes
 long-refused bytes h = go (areOdd bytes) refl
   where
     go : (odd : Bool) → areOdd bytes ≡ odd → AreRefused bytes
-    go true e = (_, ap (λ b. cond b (refusedAt 17 (length bytes / 2)) (judgedOf (wordsOf bytes))) e)
+    go true e = (_, ap (λ b. cond b (refusedAt oddBytes (length bytes / 2)) (judgedOf (wordsOf bytes))) e)
     go false e =
         let even = eqb-false (length bytes % 2) 1 e in
         let (x, q) = words-refused (wordsOf bytes) (omega (arith, words-length bytes)) in
-        (x, ap (λ b. cond b (refusedAt 17 (length bytes / 2)) (judgedOf (wordsOf bytes))) e ∙ q)
+        (x, ap (λ b. cond b (refusedAt oddBytes (length bytes / 2)) (judgedOf (wordsOf bytes))) e ∙ q)
 
 pub rest-never-needed : RestNeverNeeded
 rest-never-needed bytes rest n = (long-refused bytes (omega arith), long-refused _ (omega (arith, length-append bytes rest)))

@@ -13,9 +13,9 @@ use borrow.Author.Tests.{lt-ltb}
 use Rattle.paper.specs.Limits.{mostTransitions}
 use Rattle.paper.specs.declared.Label.{Label}
 use Rattle.paper.specs.Formula.{ℓ, has}
-use Rattle.paper.specs.Structure.Fold.{Fold}
-use Rattle.paper.specs.Structure.KeyCount.{KeyCount, number, leafKeys as leafCount, unitKeys as unitCount}
-use Rattle.paper.specs.Structure.KeyCount.{joinKeys as joinCounts, keyFold, keyCountOf, numberOf}
+use Rattle.paper.specs.Inside.Structure.Fold.{Fold}
+use Rattle.paper.specs.Inside.Structure.KeyCount.{KeyCount, number, leafKeys as leafCount, unitKeys as unitCount}
+use Rattle.paper.specs.Inside.Structure.KeyCount.{joinKeys as joinCounts, keyFold, keyCountOf, numberOf}
 use Rattle.paper.proofs.Folds.{carried, carried-everywhere}
 use Rattle.paper.proofs.Bools.{pick}
 use Rattle.rows.specs.Formula.{formulaAt}

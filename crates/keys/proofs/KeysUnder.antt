@@ -10,7 +10,7 @@ use mathlib.Core.List.{List, [], _∷_}
 use lib.Dec.{eqb}
 use borrow.Author.Tests.{eq-eqb, ne-eqb}
 use Rattle.paper.specs.Limits.{mostTransitions}
-use Rattle.paper.specs.Structure.KeyCount.{KeyCount, number, unitKeys as unitCount, joinKeys as joinCounts}
+use Rattle.paper.specs.Inside.Structure.KeyCount.{KeyCount, number, unitKeys as unitCount, joinKeys as joinCounts}
 use Rattle.paper.proofs.KeyCounts.{number-of-both, number-of-either, joinKeys-unit}
 use Rattle.rows.specs.Rows.{kindOf, endOf, formOf}
 use Rattle.rows.specs.Inside.Walk.{expressionsAt, firstAt, Walkable, joinedFrom}

@@ -9,6 +9,7 @@ ghost use Rattle.paper.specs.Limits.{mostRows};
 use marks::is_marked;
 use paper::Label;
 use paper::limits::MOST_ROWS;
+use paper::limits::MOST_TRANSITIONS;
 use rows::end_of;
 use rows::kind_of;
 use rows::walk::expressions_of;
@@ -31,11 +32,14 @@ pub fn total_of(k: Distinct) -> u64
     k.more as u64
 }
 
-// At most 65,536.
+// One more than an accepted table can have.
+const LIMIT: u64 = MOST_TRANSITIONS + 1;
+
+// At most so many.
 fn capped(x: u64) -> u32
     ensures { λ r. ⌜ r ≡ min limit x ⌝ }
 {
-    if x < 65536 { x as u32 } else { 65536 }
+    if x < LIMIT { x as u32 } else { LIMIT as u32 }
 }
 
 // A leaf's one key: not empty if the leaf is chosen.

@@ -7,6 +7,7 @@ use mathlib.Core.Bool.{Bool, true, false, cond}
 use mathlib.Core.List.{List}
 use lib.ListN.{length, take, length-map, length-take}
 use lib.Seq.{length-take-le}
+use Rattle.paper.specs.Refusals.{oddBytes}
 use Rattle.paper.specs.Limits.{slots}
 use Rattle.paper.specs.declared.Refusal.{Refusal}
 use Rattle.entries.specs.Front.{inFront}
@@ -30,7 +31,7 @@ module _ {bytes order₀ order : List ℕ} {r : Judged} (j : JudgedBytes bytes o
   unfolding judgedBytes
   accepted-words a e = go (areOdd bytes) e
     where
-      go : (odd : Bool) → cond odd (refusedAt 17 (length bytes / 2)) (judgedOf (wordsOf bytes)) ≡ judged.Accepted a
+      go : (odd : Bool) → cond odd (refusedAt oddBytes (length bytes / 2)) (judgedOf (wordsOf bytes)) ≡ judged.Accepted a
           → judgedOf (wordsOf bytes) ≡ judged.Accepted a
       go true q = let z : _≡_ {A = ℕ} 0 1 = cc in absurd (omega arith)
       go false q = q

@@ -14,7 +14,8 @@ use Rattle.answers.proofs.Accepted.{few-transitions}
 use Rattle.listing.specs.Text.{refusedLine}
 use Rattle.listing.specs.Inside.Placed.{Put}
 use Rattle.lister.specs.declared.lines.Lines.{Lines}
-use Rattle.lister.specs.Listing.{headOf, pieces}
+use Rattle.lister.specs.Listing.{headOf}
+use Rattle.lister.specs.Inside.Steps.{pieces}
 use Rattle.lister.specs.Inside.Steps.{LinesPut, manyPieces, PartPut, AcceptedIf}
 use Rattle.lister.proofs.Asked.{line-room}
 use Rattle.lister.proofs.LinesPut.{fits-within, fits-some}

@@ -11,7 +11,8 @@ use lib.Seq.{take-at, drop-at}
 use Rattle.strategy.specs.declared.Judged.{Judged}
 use Rattle.strategy.specs.declared.Judged.the-variants as judged
 use Rattle.listing.specs.Inside.Placed.{placed, Put}
-use Rattle.lister.specs.Listing.{linesFrom, firstOf, transitionsOf, linesBelow, pieces, piecesBelow}
+use Rattle.lister.specs.Listing.{linesFrom, firstOf, transitionsOf, linesBelow}
+use Rattle.lister.specs.Inside.Steps.{pieces, piecesBelow}
 use Rattle.lister.specs.Inside.Steps.{manyPieces, partOf}
 use Rattle.lister.proofs.LinesPut.{lines-split}
 

@@ -13,8 +13,10 @@ use Rattle.answers.proofs.Accepted.{few-transitions}
 use Rattle.listing.proofs.Placing.{put-length}
 use Rattle.lister.specs.declared.output.Written.{Written}
 use Rattle.lister.specs.declared.parts.Part.{Part}
-use Rattle.lister.specs.Listing.{firstOf, transitionsOf, linesBelow, listingOf, pieces, piecesBelow}
-use Rattle.lister.specs.Inside.Steps.{AcceptedIf, PartPut, Prepared, NextPart, HandedOver, Reached}
+use Rattle.lister.specs.Listing.{firstOf, transitionsOf, linesBelow, listingOf}
+use Rattle.lister.specs.Inside.Steps.{pieces, piecesBelow}
+use Rattle.lister.specs.Running.{NextPart, HandedOver, Reached}
+use Rattle.lister.specs.Inside.Steps.{AcceptedIf, PartPut, Prepared}
 use Rattle.lister.proofs.Pieces.{put-front, stands-between, part-follows, all-pieces, behind}
 use Rattle.lister.proofs.PartsPut.{part-goes-on}
 

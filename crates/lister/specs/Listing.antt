@@ -8,7 +8,7 @@ use Rattle.written.specs.Tables.{formulaIn}
 use Rattle.strategy.specs.declared.Accepted.{Accepted}
 use Rattle.strategy.specs.declared.Judged.{Judged}
 use Rattle.strategy.specs.declared.Judged.the-variants as judged
-use Rattle.strategy.specs.Judge.{proposalIn}
+use Rattle.strategy.specs.Judge.{orderIn, proposalIn}
 use Rattle.input.specs.Bytes.{wordsOf, judgedBytes}
 use Rattle.answers.specs.Requests.{reported, keyOf, assignedOf}
 use Rattle.listing.specs.Text.{acceptedLine, orderLine, transitionLine, refusedLine}
@@ -30,7 +30,7 @@ module _ (words : List ℕ) (l : Layout) where
 -- the first part: one line of a refusal, or the first two lines of an acceptance
 abbrev pub firstOf : List ℕ → Judged → List ℕ
 firstOf words (judged.Refused r) = refusedLine (r .number) (r .place)
-firstOf words (judged.Accepted a) = headOf a (map (λ i. i .0) (reported words (a .layout)))
+firstOf words (judged.Accepted a) = headOf a (orderIn words (a .layout))
 
 -- the rest: of an acceptance a line for each transition
 abbrev pub transitionsOf : Judged → ℕ
@@ -45,11 +45,3 @@ linesBelow words (judged.Accepted a) k = linesFrom words (a .layout) 0 k
 abbrev pub listingOf : List ℕ → List ℕ
 listingOf bytes =
     firstOf (wordsOf bytes) (judgedBytes bytes) ++ linesBelow (wordsOf bytes) (judgedBytes bytes) (transitionsOf (judgedBytes bytes))
-
--- The listing in pieces: piece 0 is the first part, and piece k + 1 the line of transition k. How many there are, and those below n joined.
-abbrev pub pieces : Judged → ℕ
-pieces j = transitionsOf j + 1
-
-abbrev pub piecesBelow : List ℕ → Judged → ℕ → List ℕ
-piecesBelow words j zero = []
-piecesBelow words j (suc k) = firstOf words j ++ linesBelow words j k

@@ -10,11 +10,12 @@ ghost use mathlib.Core.Path.{_≡_};
 ghost use Prim.Native.Nat.{_≤_};
 ghost use lib.ListN.{length};
 ghost use Rattle.lister.specs.Listing.{listingOf};
-ghost use Rattle.lister.specs.Inside.Steps.{Reached, RanSo};
+ghost use Rattle.lister.specs.Running.{Reached, RanSo};
 ghost use Rattle.paper.specs.Limits.{mostBytes};
 use input::judging::judge_bytes;
 use input::words::fill_words;
 use output::Written;
+use paper::limits::MOST_BYTES;
 use paper::limits::SLOTS;
 use reading::Read;
 use reading::read_input;
@@ -31,7 +32,7 @@ fn list(bytes: &[u8]) -> Written
     requires { ⌜ length (now bytes) ≤ mostBytes ⌝ }
     ensures { λ r. ⌜ Reached (listingOf (now (bytes .entry))) r ⌝ }
 {
-    let mut words = [0u16; 32768];
+    let mut words = [0u16; MOST_BYTES / 2];
     let count = fill_words(bytes, &mut words);
     let mut order = [0u16; SLOTS];
     let judged = judge_bytes(bytes, &words[..count], &mut order);

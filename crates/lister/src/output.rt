@@ -3,7 +3,7 @@
 ghost use mathlib.Core.Path.{_≡_};
 ghost use mathlib.Core.Bool.{true};
 ghost use Rattle.lister.specs.Listing.{listingOf};
-ghost use Rattle.lister.specs.Inside.Steps.{NextPart, HandedOver};
+ghost use Rattle.lister.specs.Running.{NextPart, HandedOver};
 use libc::STDOUT_FILENO;
 
 // How many bytes of a listing the writing call has taken, and whether it took all that it was given.

@@ -1,11 +1,11 @@
 // The parts of a listing, put into a lent buffer: the first one, and then the lines of the transitions, as many at a time as surely fit.
 // A listing is taken for a row of pieces: piece 0 is the first part, and piece k + 1 the line of transition k.
 ghost use mathlib.Core.Path.{_≡_};
-ghost use Prim.Native.Nat.{_<_, _≤_};
+ghost use Prim.Native.Nat.{_+_, _<_, _≤_};
 ghost use lib.ListN.{length};
-ghost use Rattle.lister.specs.Listing.{pieces};
+ghost use Rattle.lister.specs.Inside.Steps.{pieces};
 ghost use Rattle.lister.specs.Inside.Steps.{Listable, ListableIf, PartPut};
-ghost use Rattle.paper.specs.Limits.{mostBytes};
+ghost use Rattle.paper.specs.Limits.{mostBytes, mostTransitions};
 use crate::lines::put_head;
 use crate::lines::put_lines;
 use keys::Distinct;
@@ -22,7 +22,7 @@ pub struct Part {
 
 // How many pieces the listing has.
 pub fn pieces_of(judged: Judged) -> usize
-    requires { ⌜ pieces judged ≤ 65536 ⌝ }
+    requires { ⌜ pieces judged ≤ mostTransitions + 1 ⌝ }
     ensures { λ r. ⌜ r ≡ pieces judged ⌝ }
 {
     match judged {

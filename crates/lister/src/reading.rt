@@ -2,7 +2,7 @@
 // contract can say what a reading call puts into the buffer.
 ghost use mathlib.Core.Path.{_≡_};
 ghost use lib.ListN.{length};
-ghost use Rattle.lister.specs.Inside.Steps.{ReadSo};
+ghost use Rattle.lister.specs.Running.{ReadSo};
 ghost use Rattle.paper.specs.Limits.{mostBytes};
 use libc::STDIN_FILENO;
 

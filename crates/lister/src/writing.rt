@@ -1,6 +1,7 @@
 // The listing of the bytes that were read, written out part after part.
 ghost use Rattle.lister.specs.Listing.{listingOf};
-ghost use Rattle.lister.specs.Inside.Steps.{Prepared, Reached};
+ghost use Rattle.lister.specs.Running.{Reached};
+ghost use Rattle.lister.specs.Inside.Steps.{Prepared};
 use crate::basis::basis_if_accepted;
 use crate::output::Written;
 use crate::output::is_whole;

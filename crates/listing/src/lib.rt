@@ -1,5 +1,5 @@
-// The lines of a listing (document 01, "A listing, whole"), put into a lent buffer. Each function puts its bytes at a place of
-// the buffer, leaves the rest of the buffer as it was, and answers the place after them.
+// The lines of a listing (document 01, "A listing, whole"), put into a lent buffer. Each function puts its bytes at a position
+// of the buffer, leaves the rest of the buffer as it was, and answers the position after them.
 ghost use mathlib.Core.Path.{_≡_};
 ghost use Prim.Native.Nat.{_+_, _*_, _^_, _≤_, _<_};
 ghost use lib.ListN.{length};

@@ -1,5 +1,5 @@
 -- A variable is frozen at a candidate exactly if the candidate's own star reads it, or the star of an exists or IF row that
--- guards it (specs/Prior.antt, `isFrozen`). By induction over the formula, with the guards around it: they read what the
+-- guards it (specs/Inside/Prior.antt, `isFrozen`). By induction over the formula, with the guards around it: they read what the
 -- stars of the guarding rows before it read, and a row passed on the way down or aside guards the candidate only if it is an
 -- exists or an IF, with the candidate behind its star.
 use Prim.Native.Nat.{ℕ, _+_, _≤_}
@@ -15,7 +15,7 @@ use Rattle.paper.specs.declared.Variable.{Variable}
 use Rattle.paper.specs.Lists.{anyOf}
 use Rattle.paper.specs.Formula.{ℓ, 𝓋, alike, holds, labels, labelsOf, Star, Formula, Formulas}
 use Rattle.paper.specs.Formula.{FALSE, test, candidate, conjunction, disjunction, exists, IF, only, _⨾_}
-use Rattle.paper.specs.Frozen.{Site, site, sitesUnder, sitesOf, foldBy, frozen}
+use Rattle.paper.specs.Frozen.{Site, site, sitesUnder, sitesOf, areRead, frozen}
 use Rattle.paper.proofs.Bools.{pick}
 use Rattle.paper.proofs.Lists.{any-append}
 use Rattle.paper.proofs.Frozen.{frozen-at-site}
@@ -35,8 +35,8 @@ star-reads {reads = reads} {s = s} {t = t} w v =
     rw (w .row-is .arg-is, w .row-is .from-is) (ap (λ vs. holds vs (𝓋 v)) (w .reads-are) ∙ any-map 𝓋 (alike (𝓋 v)) (take (length (s .reads)) (drop t reads)))
 
 -- what stars and one more read
-reads-more : (g : List Star) (s : Star) (v : Variable) → foldBy (g ++ (s ∷ [])) v ≡ (foldBy g v || holds (s .reads) v)
-reads-more g s v = any-append (λ t. holds (t .reads) v) g (s ∷ []) ∙ ap (λ t. foldBy g v || t) (or-false (holds (s .reads) v))
+reads-more : (g : List Star) (s : Star) (v : Variable) → areRead (g ++ (s ∷ [])) v ≡ (areRead g v || holds (s .reads) v)
+reads-more g s v = any-append (λ t. holds (t .reads) v) g (s ∷ []) ∙ ap (λ t. areRead g v || t) (or-false (holds (s .reads) v))
 
 module _ (rows reads : List ℕ) (x v : ℕ) where
   -- the rows before n that guard row x read v
@@ -65,14 +65,14 @@ module _ (rows reads : List ℕ) (x v : ℕ) where
     found : Site
     listed : List·Memᴰ found ss
     labelled : found .label ≡ ℓ x
-    told : foldBy (found .stars) (𝓋 v) ≡ isFrozen rows reads x v
+    told : areRead (found .stars) (𝓋 v) ≡ isFrozen rows reads x v
 
   behind-site : (s : Site) {ss : List Site} → SiteOf ss → SiteOf (s ∷ ss)
   behind-site s c = record { found = c .found; listed = List·Memᴰ·tail (c .listed); labelled = c .labelled; told = c .told }
 
   -- the guards around a formula at row i read v if the guards of row x before row i do
   abbrev Around : List Star → ℕ → Type 0
-  Around g i = foldBy g (𝓋 v) ≡ guardsRead i
+  Around g i = areRead g (𝓋 v) ≡ guardsRead i
 
   -- a candidate
   own-site : {i t : ℕ} {l : Label} {s : Star} (g : List Star) (others : List Site) → l ≡ ℓ i → StarIs rows reads s (i + 1) t → x ≡ i → Around g i

@@ -14,15 +14,10 @@ use Rattle.paper.specs.Lists.{those}
 use Rattle.paper.specs.Formula.{ℓ, same}
 use Rattle.paper.specs.Order.{isReady, greedyBy, leads, onCycle, order}
 use Rattle.paper.proofs.Bools.{pick}
-use Rattle.paper.proofs.Lists.{any-same, of-those}
+use Rattle.paper.proofs.Lists.{any-same, of-those, those-same}
 use Rattle.rows.proofs.Meets.{lt-or-le}
 use Rattle.paper.specs.Lists.{upTo}
-use Rattle.paper.proofs.UpTo.{length-upTo, below-of, any-map, those-map}
-
--- two tests that answer alike on the members take the same ones
-those-same : {X : Type 0} (p q : X → Bool) (xs : List X) → ((a : X) → List·Memᴰ a xs → p a ≡ q a) → those p xs ≡ those q xs
-those-same p q [] h = refl
-those-same p q (x ∷ xs) h = let e = h x (List·Memᴰ·head refl) in let r = those-same p q xs (λ a t. h a (List·Memᴰ·tail t)) in cc
+use Rattle.paper.proofs.UpTo.{length-upTo, of-upTo, any-map, those-map}
 
 -- Each x stands for h x: on those that are in, R between the ones is Q between the others, and so they are told apart.
 module _ {X Y : Type 0} (h : X → Y) (R likeY : Y → Y → Bool) (Q likeX : X → X → Bool) (In : X → Type 0)
@@ -88,7 +83,7 @@ module _ (R : Label → Label → Bool) (Q : ℕ → ℕ → Bool) (g : ℕ → 
   pub order-is-indexed : order R indexed ≡ map (λ k. ℓ (g k)) (greedyBy Q eqb n (upTo n))
   order-is-indexed =
       ap (λ m. greedyBy R same m indexed) (length-map (upTo n) (λ k. ℓ (g k)) ∙ length-upTo n)
-      ∙ greedy-same (λ k. ℓ (g k)) R same Q eqb (λ k. k < n) related same-index n (upTo n) (below-of n)
+      ∙ greedy-same (λ k. ℓ (g k)) R same Q eqb (λ k. k < n) related same-index n (upTo n) (of-upTo n)
 
   pub cycle-is-indexed : (i : ℕ) → i < n → onCycle R indexed (ℓ (g i)) ≡ onCycle Q (upTo n) i
-  cycle-is-indexed i h = leads-same (λ k. ℓ (g k)) R same Q eqb (λ k. k < n) related same-index (upTo n) (below-of n) i i h h
+  cycle-is-indexed i h = leads-same (λ k. ℓ (g k)) R same Q eqb (λ k. k < n) related same-index (upTo n) (of-upTo n) i i h h

@@ -11,7 +11,7 @@ use Rattle.paper.specs.declared.Label.{Label}
 use Rattle.paper.specs.Lists.{anyOf}
 use Rattle.paper.specs.Formula.{ℓ, has, labels, labelsOf, Formula, Formulas, FALSE, test, candidate, conjunction, disjunction, exists, IF, only, _⨾_}
 use Rattle.paper.specs.Branch.{branches, ofEach, ofAny}
-use Rattle.paper.specs.Structure.Share.{holdsAll, someBranchHolds, eachHolds, anyHolds}
+use Rattle.paper.specs.Inside.Structure.Share.{holdsAll, someBranchHolds, eachHolds, anyHolds}
 use Rattle.paper.proofs.Bools.{not-so, pick}
 use Rattle.paper.proofs.Lists.{to-any, of-any, of-all}
 use Rattle.paper.proofs.Labels.{sub-has, branch-sub, each-sub, any-sub}

@@ -1,4 +1,4 @@
--- "Before" in terms of rows (specs/Prior.antt, `prior`) is the paper's "before" on the formula that the rows write. Of two
+-- "Before" in terms of rows (specs/Inside/Prior.antt, `prior`) is the paper's "before" on the formula that the rows write. Of two
 -- chosen candidates both are in the strategy, they share a branch as their rows say, and the first one's variable is that of
 -- its row, frozen at the second as its rows say.
 use Prim.Native.Nat.{ℕ, zero, suc, _<_}

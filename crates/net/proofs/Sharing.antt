@@ -1,4 +1,4 @@
--- Two candidates share a branch exactly if they are one, or the last row over both is a conjunction (specs/Prior.antt,
+-- Two candidates share a branch exactly if they are one, or the last row over both is a conjunction (specs/Inside/Prior.antt,
 -- `shareBranchIn`). By induction over the formula: where both stand in one child of a join, the last row over both stands there
 -- too, and they share a branch as they do in that child; where they stand in two, it is the join's own row, and they share a
 -- branch exactly if the join is a conjunction, as every candidate is on some branch.
@@ -15,7 +15,7 @@ use Rattle.paper.specs.declared.Label.{Label}
 use Rattle.paper.specs.Formula.{ℓ, has, labels, labelsOf, Star, Formula, Formulas, FALSE, test, candidate, conjunction, disjunction, exists, IF, only, _⨾_}
 use Rattle.paper.specs.Branch.{branches}
 use Rattle.paper.specs.Before.{shareBranch}
-use Rattle.paper.specs.Structure.Share.{holdsAll, someBranchHolds, eachHolds, anyHolds}
+use Rattle.paper.specs.Inside.Structure.Share.{holdsAll, someBranchHolds, eachHolds, anyHolds}
 use Rattle.paper.proofs.Bools.{both, and-left, pick}
 use Rattle.paper.proofs.Lists.{to-any, of-any}
 use Rattle.paper.proofs.Share.{some-holds, sharing-says}
@@ -25,7 +25,7 @@ use Rattle.rows.proofs.Meets.{lt-or-le}
 use Rattle.written.proofs.Writes.{RowIs, StarIs, Writes, WritesAll}
 use Rattle.rows.specs.Inside.Tree.{isUnder}
 use Rattle.net.specs.Inside.Prior.{overBoth, shareBranchIn}
-use Rattle.paper.proofs.UpTo.{last-is}
+use Rattle.paper.proofs.Last.{last-is}
 use Rattle.net.proofs.Spans.{ends-inside, Among, past-row, past-star, no-candidate, own-row, either-part}
 use Rattle.net.proofs.OnBranches.{some-nothing, each-nothing, some-lacks, each-lacks, any-lacks, candidate-held, candidates-held}
 
@@ -51,7 +51,7 @@ module _ (rows : List ℕ) (i j : ℕ) where
 
   last-over-both : {top : ℕ} → Last top → overBoth rows i j ≡ top
   unfolding overBoth
-  last-over-both {top} l = last-is over 0 i top (l .before) (l .is-over) (l .last)
+  last-over-both {top} l = last-is over 0 i top (record { below = l .before; passes = l .is-over; above = l .last })
 
   -- what is told of both in the rows of a formula: the last row over both, and whether some branch holds both
   record Parting (held : Bool) : Type 0 where

@@ -11,19 +11,21 @@ ghost use Rattle.paper.specs.Limits.{mostRows, mostVariables, slots};
 use entries::wide;
 use paper::Label;
 use paper::Variable;
+use paper::limits::MOST_ROWS;
 use paper::limits::MOST_VARIABLES;
+use paper::limits::SLOTS;
 use rows::arg_of;
 use rows::end_of;
 use rows::kind_of;
 
 // Where the parts of a net begin, as specs/Inside/Net.antt has them, and how many words it has.
-const GUARDS_FROM: usize = 4096;
+const GUARDS_FROM: usize = MOST_ROWS;
 
-const NEXTS_FROM: usize = 8192;
+const NEXTS_FROM: usize = GUARDS_FROM + MOST_ROWS;
 
-const FIRSTS_FROM: usize = 10240;
+const FIRSTS_FROM: usize = NEXTS_FROM + SLOTS;
 
-pub const NET_LENGTH: usize = 11264;
+pub const NET_LENGTH: usize = FIRSTS_FROM + MOST_VARIABLES;
 
 // The row over a row.
 fn parent_of(net: &[u16; NET_LENGTH], at: Label) -> Label

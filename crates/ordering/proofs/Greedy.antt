@@ -10,6 +10,7 @@ use lib.Dec.{eqb}
 use lib.ListN.{length, getD, set, take, drop, replicate, length-set, length-map, length-replicate, getD-replicate, take-append-drop, List·getD-eq-default}
 use lib.Seq.{take-suc-set, append-snoc, drop-set-lt, drop-drop, length-take-le}
 use borrow.Author.Tests.{eq-eqb, ne-eqb, not-true}
+use Rattle.paper.proofs.UpTo.{length-upTo, some-kept, none-some, none-kept, first-kept}
 use Rattle.paper.specs.Limits.{slots}
 use Rattle.paper.specs.Lists.{those}
 use Rattle.paper.specs.Order.{isReady, greedyBy}
@@ -20,8 +21,7 @@ use Rattle.entries.specs.Front.{inFront}
 use Rattle.ordering.specs.Inside.Reported.{labelled}
 use Rattle.fingers.specs.Inside.Graph.{Graph, free, leftOf, Started}
 use Rattle.ordering.specs.Inside.Placing.{State, Lowest, rest, Placing}
-use Rattle.fingers.proofs.Tests.{by-eq, by-lt, never}
-use Rattle.fingers.proofs.Kept.{length-upTo, some-kept, none-some, none-kept, first-kept}
+use Rattle.paper.proofs.Tests.{by-eq, by-lt, never}
 use Rattle.fingers.proofs.Left.{freed, was-free, left-after, left-shorter}
 
 module _ (g : Graph) where

@@ -12,7 +12,7 @@ use borrow.Author.Tests.{ltb-true}
 use Rattle.paper.proofs.Bools.{and-left, and-right}
 use Rattle.fingers.specs.Inside.Graph.{Graph, Next, free, outside}
 use Rattle.ordering.specs.Inside.Placing.{Blocked, State, Lowered, Visited}
-use Rattle.fingers.proofs.Tests.{by, never, at-set}
+use Rattle.paper.proofs.Tests.{by, never, at-set}
 use Rattle.fingers.proofs.Seeking.{outside-free, next-alike}
 
 module _ (g : Graph) (k : ℕ) (placed finger wait low : List ℕ) (s : State g k placed finger wait low) where

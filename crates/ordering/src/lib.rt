@@ -20,7 +20,7 @@ use net::NET_LENGTH;
 use paper::limits::SLOTS;
 
 // An index that no chosen label has.
-const NO_INDEX: u16 = 2048;
+const NO_INDEX: u16 = SLOTS as u16;
 
 // Notes that k waits for f.
 fn lower(low: &mut [u16; SLOTS], f: usize, k: usize)

@@ -1,7 +1,7 @@
 -- What a formula's branches have of one variable is what `coverOf` works out over the structure (specs/Statements.antt, 7).
 -- For any test on labels, the cover of a list of branches by the labels that pass keeps units and joins, so it carries the
 -- branches, read from the structure, to the cover read from it. The test is "chosen, and assigns v"; at a leaf it is
--- what the reading has there, as labels are unique.
+-- what the fold has there, as labels are unique.
 use Prim.Native.Nat.{ℕ, zero, suc, _+_}
 use native.Mathlib.Omega.{arith}
 use native.Mathlib.Nat.{zero-add}
@@ -16,7 +16,7 @@ use Rattle.paper.specs.Formula.{Label, Variable, Candidate, same, alike,
 use Rattle.paper.specs.Formula.{Formula, Formulas, FALSE, test, candidate, conjunction, disjunction, exists, IF, only, _⨾_}
 use Rattle.paper.specs.Branch.{branches}
 use Rattle.paper.specs.Judgement.{variables}
-use Rattle.paper.specs.Structure.Cover.{Cover, cover, leafCover, unitCover, joinCover, coverFold, coverOf}
+use Rattle.paper.specs.Inside.Structure.Cover.{Cover, cover, leafCover, unitCover, joinCover, coverFold, coverOf}
 use Rattle.paper.specs.Statements.{CountsSay}
 use Rattle.paper.proofs.Bools.{or-right, and-left, not-so}
 use Rattle.paper.proofs.Lists.{any-append, of-any, to-those, of-those, howMany-append, pairs-none}

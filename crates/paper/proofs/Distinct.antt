@@ -10,8 +10,7 @@ use lib.Dec.{ltb}
 use borrow.Author.Tests.{eqb-true, eq-eqb, ltb-true, ltb-false, lt-ltb}
 use Rattle.paper.specs.Formula.{Label, same, Formula}
 use Rattle.paper.specs.Branch.{branches}
-use Rattle.paper.specs.Transition.{key, sameKey, isLower, withKey, distinct}
-use Rattle.paper.specs.Statements.{Ascending, KeysAreListed}
+use Rattle.paper.specs.Transition.{key, sameKey, isLower, withKey, distinct, Ascending, KeysAreListed}
 use Rattle.paper.proofs.Bools.{or-left, or-right, or-cases, both, and-left, and-right}
 use Rattle.paper.proofs.Lists.{of-map}
 use Rattle.paper.proofs.Labels.{same-refl, same-eq}

@@ -1,13 +1,13 @@
--- Laws of readings (specs/Structure/Fold.antt). A map that keeps the leaves of a formula, the units and the joins takes
--- one reading of it to another; a reading whose joins are associative and begin at a unit joins children from the right;
--- and branches are such a reading.
+-- Laws of folds (specs/Inside/Structure/Fold.antt). A map that keeps the leaves of a formula, the units and the joins takes
+-- one fold of it to another; a fold whose joins are associative and begin at a unit joins children from the right;
+-- and branches are such a fold.
 use mathlib.Core.Path.{_≡_, refl, sym, _∙_}
 use mathlib.Core.Bool.{Bool, true, false}
 use mathlib.Core.List.{List, [], _∷_, _++_, append-assoc}
 use Rattle.paper.specs.Lists.{pairs}
 use Rattle.paper.specs.Formula.{Label, Variable, Formula, Formulas, FALSE, test, candidate, conjunction, disjunction, exists, IF, only, _⨾_}
 use Rattle.paper.specs.Branch.{branches, ofEach, ofAny}
-use Rattle.paper.specs.Structure.Fold.{Fold, foldOf, foldAll}
+use Rattle.paper.specs.Inside.Structure.Fold.{Fold, foldOf, foldAll}
 use Rattle.paper.proofs.Lists.{pairs-assoc, pairs-unit}
 
 -- one branch with nothing on it, or no branch; one branch of either side joined, or the branches of both
@@ -124,7 +124,7 @@ module _ {A : Type 0} (r : Fold A) (c : Bool) (assoc : (x y z : A) → r .join c
   pub from-the-unit : ((x : A) → r .join c (r .unit c) x ≡ x) → (fs : Formulas) → foldAll r c (r .unit c) fs ≡ joinedFromRight r c fs
   from-the-unit unit fs = from-the-right (r .unit c) fs ∙ unit (joinedFromRight r c fs)
 
--- branches are a reading
+-- branches are a fold
 mutual
   pub branches-read : (f : Formula) → branches f ≡ foldOf branchFold f
   branches-read (FALSE l) = refl

@@ -7,7 +7,7 @@ use mathlib.Core.Logic.{_⊎_, inl, inr}
 use mathlib.Core.List.{List, [], _∷_, _++_, map, map-append, List·Memᴰ, List·Memᴰ·head, List·Memᴰ·tail, List·Memᴰ·not-nil}
 use Rattle.paper.specs.Formula.{Label, Variable, Star, same, alike, holds, lab, labels, labelsOf, stars, starsOf, candidates, assigns}
 use Rattle.paper.specs.Formula.{Rising, WellFormed, Formula, Formulas, FALSE, test, candidate, conjunction, disjunction, exists, IF, only, _⨾_}
-use Rattle.paper.specs.Frozen.{Site, sitesUnder, sitesOf, sites, foldBy, frozen, Holds, Inside, Constrained, ConstrainedUnder}
+use Rattle.paper.specs.Frozen.{Site, sitesUnder, sitesOf, sites, areRead, frozen, Holds, Inside, Constrained, ConstrainedUnder}
 use Rattle.paper.specs.Statements.{FrozenIsLeast}
 use Rattle.paper.proofs.Bools.{or-left, or-right, or-cases, both, and-left, and-right, same-answer, pick}
 use Rattle.paper.proofs.Lists.{to-any, of-any, any-append}
@@ -64,43 +64,43 @@ mutual
 
 -- what is frozen at a label is read by the stars of a site with this label, and the other way round
 pub site-of-frozen : (f : Formula) (l : Label) (v : Variable) → frozen f l v ≡ true
-    → (s : Site) × List·Memᴰ s (sites f) × (l ≡ s .label) × (foldBy (s .stars) v ≡ true)
+    → (s : Site) × List·Memᴰ s (sites f) × (l ≡ s .label) × (areRead (s .stars) v ≡ true)
 site-of-frozen f l v h =
-    let (s, t, e) = of-any (λ s. same l (s .label) && foldBy (s .stars) v) (sites f) h in
+    let (s, t, e) = of-any (λ s. same l (s .label) && areRead (s .stars) v) (sites f) h in
     (s, t, same-eq l (s .label) (and-left (same l (s .label)) _ e), and-right (same l (s .label)) _ e)
 
-pub frozen-of-site : (f : Formula) (s : Site) (v : Variable) → List·Memᴰ s (sites f) → foldBy (s .stars) v ≡ true → frozen f (s .label) v ≡ true
-frozen-of-site f s v t h = to-any (λ i. same (s .label) (i .label) && foldBy (i .stars) v) t (both (same (s .label) (s .label)) _ (same-refl (s .label)) h)
+pub frozen-of-site : (f : Formula) (s : Site) (v : Variable) → List·Memᴰ s (sites f) → areRead (s .stars) v ≡ true → frozen f (s .label) v ≡ true
+frozen-of-site f s v t h = to-any (λ i. same (s .label) (i .label) && areRead (i .stars) v) t (both (same (s .label) (s .label)) _ (same-refl (s .label)) h)
 
 pub known-site : (f : Formula) → Rising 0 (labels f) → (s t : Site) → List·Memᴰ s (sites f) → List·Memᴰ t (sites f) → s .label ≡ t .label → s ≡ t
 known-site f r = known labelOf 0 (sites f) (rw (site-labels [] f) r)
 
-pub frozen-at-site : (f : Formula) → Rising 0 (labels f) → (s : Site) → List·Memᴰ s (sites f) → (v : Variable) → frozen f (s .label) v ≡ foldBy (s .stars) v
+pub frozen-at-site : (f : Formula) → Rising 0 (labels f) → (s : Site) → List·Memᴰ s (sites f) → (v : Variable) → frozen f (s .label) v ≡ areRead (s .stars) v
 frozen-at-site f r s t v =
-    same-answer (frozen f (s .label) v) (foldBy (s .stars) v)
+    same-answer (frozen f (s .label) v) (areRead (s .stars) v)
     (λ h. let (i, u, e, k) = site-of-frozen f (s .label) v h in rw (known-site f r s i t u e) k)
     (frozen-of-site f s v t)
 
 -- what a star and the guards around it read together
-reads-more : (g : List Star) (s : Star) (v : Variable) → foldBy (within g s) v ≡ (foldBy g v || holds (s .reads) v)
-reads-more g s v = any-append (λ t. holds (t .reads) v) g (s ∷ []) ∙ ap (λ t. foldBy g v || t) (or-false (holds (s .reads) v))
+reads-more : (g : List Star) (s : Star) (v : Variable) → areRead (within g s) v ≡ (areRead g v || holds (s .reads) v)
+reads-more g s v = any-append (λ t. holds (t .reads) v) g (s ∷ []) ∙ ap (λ t. areRead g v || t) (or-false (holds (s .reads) v))
 
-reads-before : (g : List Star) (s : Star) (v : Variable) → foldBy g v ≡ true → foldBy (within g s) v ≡ true
-reads-before g s v h = reads-more g s v ∙ or-left (foldBy g v) (holds (s .reads) v) h
+reads-before : (g : List Star) (s : Star) (v : Variable) → areRead g v ≡ true → areRead (within g s) v ≡ true
+reads-before g s v h = reads-more g s v ∙ or-left (areRead g v) (holds (s .reads) v) h
 
-reads-last : (g : List Star) (s : Star) (v : Variable) → holds (s .reads) v ≡ true → foldBy (within g s) v ≡ true
-reads-last g s v h = reads-more g s v ∙ or-right (foldBy g v) (holds (s .reads) v) h
+reads-last : (g : List Star) (s : Star) (v : Variable) → holds (s .reads) v ≡ true → areRead (within g s) v ≡ true
+reads-last g s v h = reads-more g s v ∙ or-right (areRead g v) (holds (s .reads) v) h
 
-reads-cases : (g : List Star) (s : Star) (v : Variable) → foldBy (within g s) v ≡ true → (foldBy g v ≡ true) ⊎ (holds (s .reads) v ≡ true)
-reads-cases g s v h = or-cases (foldBy g v) (holds (s .reads) v) (sym (reads-more g s v) ∙ h)
+reads-cases : (g : List Star) (s : Star) (v : Variable) → areRead (within g s) v ≡ true → (areRead g v ≡ true) ⊎ (holds (s .reads) v ≡ true)
+reads-cases g s v h = or-cases (areRead g v) (holds (s .reads) v) (sym (reads-more g s v) ∙ h)
 
 module _ (F : Label → Variable → Bool) where
   -- F has at a label just what stars read, or it has at least this
   abbrev Reads : Label → List Star → Type 0
-  Reads l g = (v : Variable) → F l v ≡ foldBy g v
+  Reads l g = (v : Variable) → F l v ≡ areRead g v
 
   abbrev Covers : Label → List Star → Type 0
-  Covers l g = (v : Variable) → foldBy g v ≡ true → F l v ≡ true
+  Covers l g = (v : Variable) → areRead g v ≡ true → F l v ≡ true
 
   -- and so at each site with the site's stars
   abbrev ReadsEach : List Site → Type 0

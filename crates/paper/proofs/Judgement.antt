@@ -14,9 +14,9 @@ use Rattle.paper.specs.Formula.{Label, Variable, ℓ, has, Formula, labe
 use Rattle.paper.specs.Branch.{branches}
 use Rattle.paper.specs.Before.{before}
 use Rattle.paper.specs.Order.{Chain, onCycle}
-use Rattle.paper.specs.Strategy.{chosenOn, Strategy}
+use Rattle.paper.specs.Strategy.{chosenOn, Strategy, Homogeneous, MinimalCovering}
 use Rattle.paper.specs.Transition.{keys}
-use Rattle.paper.specs.Refusals.{Refusal, refusal}
+use Rattle.paper.specs.Refusals.{Refusal, refusal, noOrder, tooMany}
 use Rattle.paper.specs.Judgement.{Judgement, accepted, refused, refuse, variables, strangers, missed, doubled, onCycles, judge}
 use Rattle.paper.specs.Statements.{AcceptedExactly, AcceptedOnlySo, Refusal13, OrderExists}
 use Rattle.paper.proofs.Bools.{not-so}
@@ -69,7 +69,7 @@ module _ (#V : ℕ) (f : Formula) (A : List Label) where
 
   -- the last check, of the number of transitions
   abbrev lastCheck : Bool → Judgement
-  lastCheck more = cond more (refused (refusal 14 0)) (accepted #V (length (labels f)) (length A) (length (keys f A)))
+  lastCheck more = cond more (refused (refusal tooMany 0)) (accepted #V (length (labels f)) (length A) (length (keys f A)))
 
   at-most : (more : Bool) {v n s t : ℕ} → ltb mostTransitions (length (keys f A)) ≡ more → lastCheck more ≡ accepted v n s t
       → length (keys f A) ≤ mostTransitions
@@ -96,12 +96,20 @@ module _ (#V : ℕ) (f : Formula) (A : List Label) where
     to-never n = to-none (λ v. anyOf (p v) (branches f)) (variables #V) λ v t. not-so _ λ h.
         let (b, u, q) = of-any (p v) (branches f) h in true≢false (sym q ∙ n v (in-variables #V v t) b u)
 
+  -- what 10 passes, and what 11 and 12 pass
+  pub homogeneous-of : strangers f A ≡ [] → Homogeneous f A
+  homogeneous-of e l h = not-false (isCandidate f l) (of-none (λ l. not (isCandidate f l)) A e l (has-mem A l h))
+
+  pub minimal-of : missed #V f A ≡ [] → doubled #V f A ≡ [] → MinimalCovering #V f A
+  minimal-of e d n (b, t, v, h, q) =
+      let some = eqb-false (chosenOn f A b v) 0 (never (λ v b. eqb (chosenOn f A b v) 0) e v h b t) in
+      let few = ltb-false 1 (chosenOn f A b v) (never (λ v b. ltb 1 (chosenOn f A b v)) d v h b t) in
+      omega arith
+
   passes-strategy : Passes → Strategy #V f A
   passes-strategy p = record {
-    homogeneous = λ l h. not-false (isCandidate f l) (of-none (λ l. not (isCandidate f l)) A (p .no-strangers) l (has-mem A l h));
-    minimal = λ d (b, t, v, h, e).
-        let some = eqb-false (chosenOn f A b v) 0 (never (λ v b. eqb (chosenOn f A b v) 0) (p .none-missed) v h b t) in
-        let few = ltb-false 1 (chosenOn f A b v) (never (λ v b. ltb 1 (chosenOn f A b v)) (p .none-doubled) v h b t) in omega arith;
+    homogeneous = homogeneous-of (p .no-strangers);
+    minimal = minimal-of (p .none-missed) (p .none-doubled);
     acyclic = orders .no-cycle .1 λ l c. false≢true (subst (λ ls. has ls l ≡ true) (p .none-on-cycle) (cycle-listed l c));
   }
 
@@ -120,11 +128,12 @@ module _ (#V : ℕ) (f : Formula) (A : List Label) where
   pub accepted-only-so : AcceptedOnlySo #V f A
   accepted-only-so v n s t e = accepts (passes v n s t e)
 
-  last-not-13 : (more : Bool) {p : ℕ} → lastCheck more ≡ refused (refusal 13 p) → ⊥
+  last-not-13 : (more : Bool) {p : ℕ} → lastCheck more ≡ refused (refusal noOrder p) → ⊥
   last-not-13 true e = let z : _≡_ {A = ℕ} 14 13 = same-number e in omega arith
   last-not-13 false e = let z : _≡_ {A = ℕ} 0 1 = cc in omega arith
 
-  first-on-cycle : (place : ℕ) → judge #V f A ≡ refused (refusal 13 place) → (l : Label) × (others : List Label) × (onCycles f A ≡ l ∷ others) × (l .0 ≡ place)
+  first-on-cycle : (place : ℕ) → judge #V f A ≡ refused (refusal noOrder place)
+      → (l : Label) × (others : List Label) × (onCycles f A ≡ l ∷ others) × (l .0 ≡ place)
   first-on-cycle place e =
       let e₁ = not-refused (λ l. l .0) 10 (strangers f A) _ (λ q. omega arith) e in
       let e₂ = not-refused (λ v. v .0) 11 (missed #V f A) _ (λ q. omega arith) e₁ in

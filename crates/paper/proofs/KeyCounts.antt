@@ -8,8 +8,8 @@ use mathlib.Core.Bool.{Bool, true, false, cond, _&&_, _||_, and-assoc, or-assoc}
 use mathlib.Core.List.{List}
 use Rattle.paper.specs.Formula.{Label, Formulas}
 use Rattle.paper.specs.Formula.{only, _⨾_}
-use Rattle.paper.specs.Structure.Fold.{foldAll}
-use Rattle.paper.specs.Structure.KeyCount.{KeyCount, keyCount, number, unitKeys, joinKeys, keyFold, keyCountOf, numberOf, numberOfEach}
+use Rattle.paper.specs.Inside.Structure.Fold.{foldAll}
+use Rattle.paper.specs.Inside.Structure.KeyCount.{KeyCount, keyCount, number, unitKeys, joinKeys, keyFold, keyCountOf, numberOf, numberOfEach}
 use Rattle.paper.proofs.Folds.{joinedFromRight, from-the-unit}
 
 -- counts of keys, joined

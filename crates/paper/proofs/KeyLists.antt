@@ -15,8 +15,7 @@ use lib.Seq.{getD-append-add, take-at, drop-at}
 use borrow.Author.Tests.{lt-ltb}
 use Rattle.paper.specs.Lists.{pairs}
 use Rattle.paper.specs.Formula.{Label, same, has, Rising}
-use Rattle.paper.specs.Transition.{key, sameKey, isLower, distinct}
-use Rattle.paper.specs.Statements.{Ascending}
+use Rattle.paper.specs.Transition.{key, sameKey, isLower, distinct, Ascending}
 use Rattle.paper.proofs.Bools.{or-left, or-right, or-cases, both, and-left, and-right, not-so, same-answer, pick}
 use Rattle.paper.proofs.Lists.{any-append, of-map, to-pairs, of-pairs, of-those, those-append}
 use Rattle.paper.proofs.Labels.{same-refl, mem-has, has-left, has-right, has-cases, sub-has, rising-split, rising-above}

@@ -1,5 +1,6 @@
 pub mod Bools
 pub mod Lists
+pub mod Tests
 pub mod Outcome
 pub mod OneOutcome
 pub mod Labels

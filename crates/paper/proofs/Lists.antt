@@ -2,7 +2,7 @@
 use Prim.Native.Nat.{ℕ, suc, _+_, _<_, _≤_}
 use native.Mathlib.Omega.{arith}
 use mathlib.Core.Path.{_≡_, refl, sym, subst, ap, _∙_}
-use mathlib.Core.Bool.{Bool, true, false, cond, _||_, or-assoc, true≢false, false≢true}
+use mathlib.Core.Bool.{Bool, true, false, cond, _&&_, _||_, or-assoc, true≢false, false≢true}
 use mathlib.Core.Logic.{_⊎_, inl, inr}
 use mathlib.Core.List.{List, [], _∷_, _++_, map, append-nil, append-assoc, List·Memᴰ, List·Memᴰ·head, List·Memᴰ·tail, List·Memᴰ·cases-cons, List·Memᴰ·not-nil}
 use mathlib.Core.List.{List·Memᴰ·append-cases, Memᴰ·append-left, Memᴰ·append-right, Memᴰ·map, Memᴰ·of-map, map-append, Sublistᴰ, Sublistᴰ·slnil, Sublistᴰ·cons}
@@ -213,3 +213,18 @@ module _ {A : Type 0} where
 
   pub pairs-unit : (xs : List (List A)) → pairs ([] ∷ []) xs ≡ xs
   pairs-unit xs = append-nil (map (λ x. [] ++ x) xs) ∙ map-nothing xs
+
+module _ {A : Type 0} where
+  -- those of those; those that two tests agree on
+  pub those-those : (p q : A → Bool) (xs : List A) → those p (those q xs) ≡ those (λ x. q x && p x) xs
+  those-those p q [] = refl
+  those-those p q (x ∷ xs) = go (q x) (those-those p q xs)
+    where
+      go : (s : Bool) → those p (those q xs) ≡ those (λ x. q x && p x) xs
+          → those p (cond s (x ∷ those q xs) (those q xs)) ≡ cond (s && p x) (x ∷ those (λ x. q x && p x) xs) (those (λ x. q x && p x) xs)
+      go true r = ap (λ l. cond (p x) (x ∷ l) l) r
+      go false r = r
+
+  pub those-same : (p q : A → Bool) (xs : List A) → ((a : A) → List·Memᴰ a xs → p a ≡ q a) → those p xs ≡ those q xs
+  those-same p q [] e = refl
+  those-same p q (x ∷ xs) e = rw (e x (List·Memᴰ·head refl)) (ap (λ l. cond (q x) (x ∷ l) l) (those-same p q xs (λ a t. e a (List·Memᴰ·tail t))))

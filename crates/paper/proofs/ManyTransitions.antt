@@ -2,32 +2,31 @@
 -- and a cycle shows before that. The branches are never listed: what they have of each variable, and how many keys they have, is
 -- worked out over the structure (`counts-say`, `numbers-say`); where no star reads anything, nothing comes before anything.
 use Prim.Native.Nat.{ℕ}
-use native.Mathlib.Omega.{arith}
 use mathlib.Core.Path.{_≡_, refl, sym, ap, _∙_}
 use mathlib.Core.Bool.{Bool, true, false, cond, not, _&&_, true≢false, false≢true}
 use mathlib.Core.List.{List, [], _∷_, List·Memᴰ}
 use lib.Dec.{eqb, ltb}
 use lib.ListN.{length, drop}
-use borrow.Author.Tests.{eqb-false, ltb-false}
 use Rattle.paper.specs.Lists.{anyOf, allOf, those}
 use Rattle.paper.specs.Formula.{Label, Variable, ℓ, has, holds, Star, Candidate, Formula, labels, isCandidate, candidates, same, WellFormed}
 use Rattle.paper.specs.Branch.{branches}
-use Rattle.paper.specs.Frozen.{Site, sites, frozen, foldBy}
+use Rattle.paper.specs.Frozen.{Site, sites, frozen, areRead}
 use Rattle.paper.specs.Before.{before, depends, shareBranch}
 use Rattle.paper.specs.Order.{leads}
 use Rattle.paper.specs.Strategy.{chosenOn, MinimalCovering}
 use Rattle.paper.specs.Transition.{keys}
 use Rattle.paper.specs.Limits.{mostTransitions}
-use Rattle.paper.specs.Refusals.{refusal}
+use Rattle.paper.specs.Refusals.{refusal, noOrder, tooMany}
 use Rattle.paper.specs.Judgement.{accepted, refused, variables, strangers, missed, doubled, onCycles, judgeOrder, judge}
-use Rattle.paper.specs.Structure.Cover.{coverOf}
-use Rattle.paper.specs.Structure.KeyCount.{numberOf}
+use Rattle.paper.specs.Inside.Structure.Cover.{coverOf}
+use Rattle.paper.specs.Inside.Structure.KeyCount.{numberOf}
 use Rattle.paper.specs.ManyTransitions.{fourChoices, allOfFour, sixteenChoices, allOfSixteen, sixteenInCycle}
 use Rattle.paper.proofs.Bools.{and-left, and-right, not-so}
-use Rattle.paper.proofs.Lists.{of-any, to-any, of-all, of-none, to-none, to-those}
+use Rattle.paper.proofs.Lists.{of-any, of-all, to-none, to-those}
 use Rattle.paper.proofs.Labels.{has-mem}
-use Rattle.paper.proofs.Variables.{in-variables, to-variables}
+use Rattle.paper.proofs.Variables.{in-variables}
 use Rattle.paper.proofs.Frozen.{site-of-frozen}
+use Rattle.paper.proofs.Judgement.{minimal-of}
 use Rattle.paper.proofs.Cover.{counts-say}
 use Rattle.paper.proofs.Numbers.{numbers-say}
 use Rattle.paper.proofs.Cases.{of-well-formed}
@@ -57,13 +56,7 @@ module _ (#V : ℕ) (f : Formula) (A : List Label) (formed : WellFormed #V f) (c
       true≢false (sym (and-right (coverOf A v f .always) _ (cover-test v t)) ∙ ap not doubles)
 
   minimal : MinimalCovering #V f A
-  minimal d (b, t, v, h, e) =
-      let w = to-variables #V v h in
-      let never : (p : Variable → List Label → Bool) → those (λ v. anyOf (p v) (branches f)) (variables #V) ≡ [] → p v b ≡ false =
-      λ p none. not-so (p v b) λ q. true≢false (sym (to-any (p v) t q) ∙ of-none (λ v. anyOf (p v) (branches f)) (variables #V) none v w) in
-      let some = eqb-false (chosenOn f A b v) 0 (never (λ v b. eqb (chosenOn f A b v) 0) none-missed) in
-      let few = ltb-false 1 (chosenOn f A b v) (never (λ v b. ltb 1 (chosenOn f A b v)) none-doubled) in
-      omega arith
+  minimal = minimal-of #V f A none-missed none-doubled
 
   count-is : length (keys f A) ≡ numberOf A f
   count-is = numbers-say #V f A formed (λ l h. of-all (isCandidate f) homogeneous-test (has-mem A l h)) minimal .count
@@ -92,7 +85,7 @@ silent-holds-none : (vs : List Variable) (v : Variable) → isSilent vs ≡ true
 silent-holds-none [] v h = refl
 silent-holds-none (w ∷ vs) v h = absurd (false≢true h)
 
-silent-stars : (ss : List Star) (v : Variable) → allOf (λ t. isSilent (t .reads)) ss ≡ true → foldBy ss v ≡ false
+silent-stars : (ss : List Star) (v : Variable) → allOf (λ t. isSilent (t .reads)) ss ≡ true → areRead ss v ≡ false
 silent-stars [] v h = refl
 silent-stars (s ∷ ss) v h = rw (silent-holds-none (s .reads) v (and-left (isSilent (s .reads)) _ h)) (silent-stars ss v (and-right (isSilent (s .reads)) _ h))
 
@@ -100,7 +93,7 @@ module _ (f : Formula) (A : List Label) (quiet : silent f ≡ true) where
   nothing-frozen : (j : Label) (v : Variable) → frozen f j v ≡ false
   nothing-frozen j v = not-so (frozen f j v) λ h. at (site-of-frozen f j v h)
     where
-      at : (s : Site) × List·Memᴰ s (sites f) × (j ≡ s .label) × (foldBy (s .stars) v ≡ true) → ⊥
+      at : (s : Site) × List·Memᴰ s (sites f) × (j ≡ s .label) × (areRead (s .stars) v ≡ true) → ⊥
       at (s, t, e, reads) = false≢true (sym (silent-stars (s .stars) v (of-all (λ s. allOf (λ t. isSilent (t .reads)) (s .stars)) quiet t)) ∙ reads)
 
   nothing-depends : (i j : Label) → depends f i j ≡ false
@@ -118,7 +111,7 @@ module _ (f : Formula) (A : List Label) (quiet : silent f ≡ true) where
 
 -- the judgement, where no star reads anything
 judged-by-count : (#V : ℕ) (f : Formula) (A : List Label) → WellFormed #V f → isCovered #V f A ≡ true → silent f ≡ true
-    → (n : ℕ) → numberOf A f ≡ n → judge #V f A ≡ cond (ltb mostTransitions n) (refused (refusal 14 0)) (accepted #V (length (labels f)) (length A) n)
+    → (n : ℕ) → numberOf A f ≡ n → judge #V f A ≡ cond (ltb mostTransitions n) (refused (refusal tooMany 0)) (accepted #V (length (labels f)) (length A) n)
 judged-by-count #V f A formed covered quiet n e =
     passes-12 #V f A formed covered ∙ rw (no-cycles f A quiet) (rw (count-is #V f A formed covered ∙ e))
 
@@ -127,7 +120,7 @@ first-of-those : (p : Label → Bool) {A : List Label} {l : Label} {ls : List La
 first-of-those p e h = rw (e, h)
 
 judged-by-cycle : (#V : ℕ) (f : Formula) (A : List Label) (l : Label) (ls : List Label) → A ≡ l ∷ ls → WellFormed #V f → isCovered #V f A ≡ true
-    → before f A l l ≡ true → judge #V f A ≡ refused (refusal 13 (l .0))
+    → before f A l l ≡ true → judge #V f A ≡ refused (refusal noOrder (l .0))
 judged-by-cycle #V f A l ls e formed covered cycle =
     passes-12 #V f A formed covered ∙ rw (first-of-those (λ l. leads (before f A) A l l) e (self-lead (before f A) l cycle A))
 
@@ -136,11 +129,11 @@ pub four-accepted : judge 4 fourChoices allOfFour ≡ accepted 4 569 282 65535
 four-accepted = judged-by-count 4 fourChoices allOfFour (of-well-formed 4 fourChoices refl) refl refl 65535 refl
 
 -- Sixteen disjunctions of two: 14.
-pub sixteen-refused : judge 16 sixteenChoices allOfSixteen ≡ refused (refusal 14 0)
+pub sixteen-refused : judge 16 sixteenChoices allOfSixteen ≡ refused (refusal tooMany 0)
 sixteen-refused = judged-by-count 16 sixteenChoices allOfSixteen (of-well-formed 16 sixteenChoices refl) refl refl 65536 refl
 
 -- A cycle shows before that: there are as many keys, and it is 13 at 2.
-pub cycle-first : judge 16 sixteenInCycle allOfSixteen ≡ refused (refusal 13 2)
+pub cycle-first : judge 16 sixteenInCycle allOfSixteen ≡ refused (refusal noOrder 2)
 cycle-first = judged-by-cycle 16 sixteenInCycle allOfSixteen (ℓ 2) (drop 1 allOfSixteen) refl (of-well-formed 16 sixteenInCycle refl) refl refl
 
 pub as-many-keys : length (keys sixteenInCycle allOfSixteen) ≡ 65536

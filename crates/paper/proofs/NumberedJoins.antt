@@ -14,7 +14,7 @@ use borrow.Author.Tests.{ltb-true, ltb-false}
 use Rattle.paper.specs.Lists.{pairs}
 use Rattle.paper.specs.Formula.{Label, same, has}
 use Rattle.paper.specs.Transition.{key, isLower}
-use Rattle.paper.specs.Structure.KeyCount.{KeyCount, number, leafKeys, joinKeys}
+use Rattle.paper.specs.Inside.Structure.KeyCount.{KeyCount, number, leafKeys, joinKeys}
 use Rattle.paper.proofs.Bools.{pick}
 use Rattle.paper.proofs.Lists.{any-append, to-pairs}
 use Rattle.paper.proofs.Distinct.{sameKey-refl, isLower-irreflexive}

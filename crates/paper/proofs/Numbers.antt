@@ -14,8 +14,8 @@ use Rattle.paper.specs.Formula.{Label, has, labels, labelsOf, Rising, Fo
 use Rattle.paper.specs.Formula.{FALSE, test, candidate, conjunction, disjunction, exists, IF, only, _⨾_}
 use Rattle.paper.specs.Branch.{branches, ofEach, ofAny}
 use Rattle.paper.specs.Transition.{key, keys, isKept}
-use Rattle.paper.specs.Structure.KeyCount.{KeyCount, joinKeys, keyCountOf, numberOf, numberOfEach}
-use Rattle.paper.specs.Structure.Kept.{keptAt, keptEach, keptAny, keptAll}
+use Rattle.paper.specs.Inside.Structure.KeyCount.{KeyCount, joinKeys, keyCountOf, numberOf, numberOfEach}
+use Rattle.paper.specs.Inside.Structure.Kept.{keptAt, keptEach, keptAny, keptAll}
 use Rattle.paper.specs.Statements.{KeysSay}
 use Rattle.paper.proofs.Lists.{to-pairs}
 use Rattle.paper.proofs.Labels.{rising-ext, rising-split, branch-sub, any-sub}

@@ -8,7 +8,7 @@ use mathlib.Core.List.{List, [], _∷_, _++_, map, List·Memᴰ, List·Memᴰ·h
 use Rattle.paper.specs.Lists.{anyOf, pairs}
 use Rattle.paper.specs.Formula.{Label, has, Formula, Formulas, FALSE, test, candidate, conjunction, disjunction, exists, IF, only, _⨾_}
 use Rattle.paper.specs.Branch.{branches, ofEach, ofAny}
-use Rattle.paper.specs.Structure.Share.{Parting, toLeft, toRight, partings, holdsAll, someBranchHolds, eachHolds, anyHolds}
+use Rattle.paper.specs.Inside.Structure.Share.{Parting, toLeft, toRight, partings, holdsAll, someBranchHolds, eachHolds, anyHolds}
 use Rattle.paper.specs.Statements.{SharingSays}
 use Rattle.paper.proofs.Bools.{both, and-left, and-right, same-answer, pick}
 use Rattle.paper.proofs.Lists.{to-any, of-any, any-append, any-same, of-map, to-pairs, of-pairs}

@@ -4,13 +4,14 @@ use Prim.Native.Nat.{ℕ}
 use mathlib.Core.Path.{refl}
 use mathlib.Core.Bool.{Bool}
 use mathlib.Core.List.{List, [], _∷_}
+use Rattle.paper.specs.Transition.{KeysAreListed}
 use Rattle.paper.specs.Formula.{Label, Formula}
 use Rattle.paper.specs.Before.{before}
 use Rattle.paper.specs.Strategy.{Strategy}
 use Rattle.paper.specs.Meaning.{Meaning}
 use Rattle.paper.specs.Cases.{P, numbered}
 use Rattle.paper.specs.Statements.{BranchesAreMinimalModels, FrozenIsLeast, Proposition5, Proposition6, Proposition7, Proposition8, Theorem2}
-use Rattle.paper.specs.Statements.{AcceptedExactly, AcceptedOnlySo, Refusal13, OrderExists, OrderExistsExactly, KeysAreListed, KeyLength}
+use Rattle.paper.specs.Statements.{AcceptedExactly, AcceptedOnlySo, Refusal13, OrderExists, OrderExistsExactly, KeyLength}
 use Rattle.paper.specs.Statements.{CarriedOut, ReportedIsOrder, CountsSay, SharingSays, KeysSay}
 use Rattle.paper.proofs.BoolForm.{branches-are-minimal-models}
 use Rattle.paper.proofs.Frozen.{frozen-is-least}

@@ -34,12 +34,12 @@ abbrev pub sites : Formula → List Site
 sites f = sitesUnder [] f
 
 -- one of the stars reads v
-abbrev pub foldBy : List Star → Variable → Bool
-foldBy ss v = anyOf (λ s. holds (s .reads) v) ss
+abbrev pub areRead : List Star → Variable → Bool
+areRead ss v = anyOf (λ s. holds (s .reads) v) ss
 
 -- v is in frozen(l)
 abbrev pub frozen : Formula → Label → Variable → Bool
-frozen f l v = anyOf (λ s. same l (s .label) && foldBy (s .stars) v) (sites f)
+frozen f l v = anyOf (λ s. same l (s .label) && areRead (s .stars) v) (sites f)
 
 -- The constraints of Table 1 on a family F of sets of variables, one for each label.
 module _ (F : Label → Variable → Bool) where

@@ -13,9 +13,9 @@ pub mod Transition
 pub mod Meaning
 pub mod Carry
 pub mod Judgement
-pub mod Structure
 pub mod Examples
 pub mod Statements
 pub mod Cases
 pub mod FurtherCases
 pub mod ManyTransitions
+pub mod Inside

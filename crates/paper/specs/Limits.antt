@@ -1,4 +1,4 @@
--- The limits of document 01 ("The formula table"; refusals 2, 8 and 14), each under the name that code has for it in capitals.
+-- The limits of document 01 ("The formula table"; refusals 2, 8 and 14), those that code has in capitals under the same names.
 use Prim.Native.Nat.{ℕ}
 
 -- V, R, N and S: variables, reads, rows and entries of the strategy section

@@ -18,7 +18,7 @@ pub record Acyclic (R : Label → Label → Bool) (A : List Label) : Type 0 wher
   pub total : (i j : Label) → has A i ≡ true → has A j ≡ true → ((i ≺ j) ≡ true) ⊎ ((i ≡ j) ⊎ ((j ≺ i) ≡ true))
   pub respects : (i j : Label) → R i j ≡ true → (i ≺ j) ≡ true
 
--- The order and the test for cycles serve any things that can be told apart: labels here, their numbers in code.
+-- The order and the test for cycles serve any things that can be told apart: labels here, their indices in code.
 module _ {X : Type 0} (R : X → X → Bool) where
   -- nothing left comes before j
   abbrev pub isReady : List X → X → Bool

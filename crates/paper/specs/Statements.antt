@@ -16,15 +16,15 @@ use Rattle.paper.specs.Frozen.{frozen, Constrained}
 use Rattle.paper.specs.Before.{before, shareBranch}
 use Rattle.paper.specs.Order.{Acyclic, order, Chain, onCycle, OrderOf}
 use Rattle.paper.specs.Strategy.{Homogeneous, MinimalCovering, Strategy, reportedOrder}
-use Rattle.paper.specs.Transition.{sliceBy, key, isLower, class, isKept, keys, keyAt, transitions}
+use Rattle.paper.specs.Transition.{sliceBy, key, class, isKept, keys, keyAt, transitions}
 use Rattle.paper.specs.Meaning.{Meaning, True}
 use Rattle.paper.specs.Carry.{Carried, unset}
-use Rattle.paper.specs.Refusals.{refusal}
+use Rattle.paper.specs.Refusals.{refusal, noOrder}
 use Rattle.paper.specs.Judgement.{accepted, refused, missed, doubled, judge}
-use Rattle.paper.specs.Structure.Cover.{coverOf}
-use Rattle.paper.specs.Structure.KeyCount.{numberOf}
-use Rattle.paper.specs.Structure.Kept.{keptAt}
-use Rattle.paper.specs.Structure.Share.{someBranchHolds}
+use Rattle.paper.specs.Inside.Structure.Cover.{coverOf}
+use Rattle.paper.specs.Inside.Structure.KeyCount.{numberOf}
+use Rattle.paper.specs.Inside.Structure.Kept.{keptAt}
+use Rattle.paper.specs.Inside.Structure.Share.{someBranchHolds}
 
 -- 1. Branches as document 01 reads them are exactly the minimal models of boolForm, the paper's own definition, where labels
 -- ascend in preorder, as a table's do.
@@ -86,7 +86,7 @@ module _ (#V : ℕ) (f : Formula) (A : List Label) where
     pub lowest : (l : Label) → Chain (before f A) l l → place ≤ l .0
 
   abbrev pub Refusal13 : Type 0
-  Refusal13 = Rising 0 A → (place : ℕ) → judge #V f A ≡ refused (refusal 13 place) → LowestOnCycle place
+  Refusal13 = Rising 0 A → (place : ℕ) → judge #V f A ≡ refused (refusal noOrder place) → LowestOnCycle place
 
 -- An order exists exactly if the greedy order places every label, exactly if there is no cycle, exactly if the test finds
 -- none: for any relation R between labels of A, as "before" is.
@@ -101,17 +101,7 @@ Between R A = (i j : Label) → R i j ≡ true → (has A i ≡ true) × (has A 
 abbrev pub OrderExistsExactly : (Label → Label → Bool) → List Label → Type 0
 OrderExistsExactly R A = Between R A → OrderExists R A
 
--- 5. Keys: strictly ascending, so each once; exactly the branches' keys; each of #V labels where the proposal is a minimal
--- covering by candidates.
-abbrev pub Ascending : List (List Label) → Type 0
-Ascending [] = Unit {0}
-Ascending (k ∷ ks) = ((j : List Label) → List·Memᴰ j ks → isLower k j ≡ true) × Ascending ks
-
-pub record KeysAreListed (f : Formula) (A : List Label) : Type 0 where
-  pub ascending : Ascending (keys f A)
-  pub from : (k : List Label) → List·Memᴰ k (keys f A) → (b : List Label) × List·Memᴰ b (branches f) × (k ≡ key A b)
-  pub onto : (b : List Label) → List·Memᴰ b (branches f) → List·Memᴰ (key A b) (keys f A)
-
+-- 5. Keys are listed (`KeysAreListed`, specs/Transition.antt), each of #V labels where the proposal is a minimal covering by candidates.
 abbrev pub KeyLength : ℕ → Formula → List Label → Type 0
 KeyLength #V f A = WellFormed #V f → Homogeneous f A → MinimalCovering #V f A → (k : List Label) → List·Memᴰ k (keys f A) → length k ≡ #V
 

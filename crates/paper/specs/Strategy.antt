@@ -22,10 +22,7 @@ chosenOn f A b v = howMany (λ l. has A l && assigns f v l) b
 abbrev pub HasIndex : ℕ → Formula → List Label → ℕ → Type 0
 HasIndex #V f A d = (b : List Label) × List·Memᴰ b (branches f) × (v : Variable) × (v .0 < #V) × (d ≡ chosenOn f A b v)
 
--- Definition 2: 0 is no covering index; 1 is the only one
-abbrev pub Covering : ℕ → Formula → List Label → Type 0
-Covering #V f A = HasIndex #V f A 0 → ⊥
-
+-- Definition 2: a minimal covering has no covering index but 1
 abbrev pub MinimalCovering : ℕ → Formula → List Label → Type 0
 MinimalCovering #V f A = (d : ℕ) → HasIndex #V f A d → d ≡ 1
 

@@ -1,7 +1,8 @@
 -- Slices, keys, classes and transitions (document 001, Table 4 and Definition 5; document 01, "Key" and "Numbering").
 use Prim.Native.Nat.{ℕ}
 use mathlib.Core.Bool.{Bool, true, false, cond, _&&_, _||_}
-use mathlib.Core.List.{List, [], _∷_, map}
+use mathlib.Core.Path.{_≡_}
+use mathlib.Core.List.{List, [], _∷_, map, List·Memᴰ}
 use lib.Dec.{ltb}
 use lib.ListN.{getD}
 use Rattle.paper.specs.Lists.{anyOf, those}
@@ -61,7 +62,7 @@ abbrev pub distinct : List (List Label) → List (List Label)
 distinct [] = []
 distinct (k ∷ ks) = withKey k (distinct ks)
 
--- the distinct keys, ascending: the number of a transition is the place of its key here
+-- the distinct keys, ascending: the number of a transition is that of its key here, counted from 0
 abbrev pub keys : Formula → List Label → List (List Label)
 keys f A = distinct (map (key A) (branches f))
 
@@ -75,3 +76,13 @@ transition f A k = sliceBy (isKept f A k) f
 
 abbrev pub transitions : Formula → List Label → List Formula
 transitions f A = map (transition f A) (keys f A)
+
+-- what a list of keys is that lists a formula's: strictly ascending, so each once; each the key of a branch, and no branch's left out
+abbrev pub Ascending : List (List Label) → Type 0
+Ascending [] = Unit {0}
+Ascending (k ∷ ks) = ((j : List Label) → List·Memᴰ j ks → isLower k j ≡ true) × Ascending ks
+
+pub record KeysAreListed (f : Formula) (A : List Label) : Type 0 where
+  pub ascending : Ascending (keys f A)
+  pub from : (k : List Label) → List·Memᴰ k (keys f A) → (b : List Label) × List·Memᴰ b (branches f) × (k ≡ key A b)
+  pub onto : (b : List Label) → List·Memᴰ b (branches f) → List·Memᴰ (key A b) (keys f A)

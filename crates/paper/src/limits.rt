@@ -18,6 +18,9 @@ pub const MOST_DEPTH: u16 = 64;
 // Transitions of an accepted table.
 pub const MOST_TRANSITIONS: u64 = 65535;
 
+// Bytes that the lister reads.
+pub const MOST_BYTES: usize = 65536;
+
 // How many words the arrays over chosen candidates have: one more than there can be candidates, since each takes two rows and two
 // or more of them stand below a join.
 pub const SLOTS: usize = 2048;

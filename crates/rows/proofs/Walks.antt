@@ -1,4 +1,4 @@
--- The laws of a walk over rows, for every reading: what the reading has at a row of each kind, and how a loop over the
+-- The laws of a walk over rows, for every fold: what the fold has at a row of each kind, and how a loop over the
 -- expressions under a row joins their values one after another, each found at the end of the one before.
 use Prim.Native.Nat.{ℕ, zero, suc, _+_, _-_, _*_, _<_, _≤_}
 use native.Mathlib.Omega.{arith}
@@ -11,7 +11,7 @@ use lib.Dec.{eqb}
 use Rattle.paper.specs.Limits.{mostRows}
 use Rattle.paper.specs.declared.Label.{Label}
 use Rattle.paper.specs.Formula.{ℓ, 𝓋, Formula}
-use Rattle.paper.specs.Structure.Fold.{Fold, foldOf, foldAll}
+use Rattle.paper.specs.Inside.Structure.Fold.{Fold, foldOf, foldAll}
 use Rattle.rows.specs.Rows.{kindOf, argOf, endOf, Form, aFALSE, aStar, aCandidate, aConjunction, aDisjunction, anExists, anIF, noForm, formOf, meets}
 use Rattle.rows.specs.Formula.{starAt, childrenAt, nodeAt, formulaAt}
 use Rattle.rows.specs.Inside.Walk.{expressions, firstUnder, expressionsAt, firstAt, Shaped, Walkable, skeletonAt, valueAt, joinedFrom}
@@ -92,7 +92,7 @@ module _ {A : Type 0} (r : Fold A) (rows : List ℕ) where
   unfolding joinedFrom
   joined-end left c a m i e = rw e
 
-  -- No reading looks at what stars read: rows are read alike whatever the reads are.
+  -- No fold looks at what stars read: rows are read alike whatever the reads are.
   module _ (reads : List ℕ) where
     children-alike : (f g : ℕ → Formula) → ((j : ℕ) → foldOf r (f j) ≡ foldOf r (g j)) → (c : Bool) (a : A) (more i : ℕ)
         → foldAll r c a (childrenAt rows reads f more i) ≡ foldAll r c a (childrenAt rows [] g more i)

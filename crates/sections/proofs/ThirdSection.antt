@@ -8,6 +8,7 @@ use mathlib.Core.List.{List}
 use mathlib.Core.Path.{_≡_}
 use borrow.Author.Tests.{lt-ltb, le-ltb, not-false}
 use lib.ListN.{length, getD, drop}
+use Rattle.paper.specs.Refusals.{readsLeft, rowBroken, tooDeep}
 use Rattle.paper.specs.Limits.{mostRows}
 use Rattle.sections.specs.declared.Cursor.{Cursor}
 use Rattle.sections.specs.declared.Step.the-variants.{Next}
@@ -46,17 +47,17 @@ taken-small rows h (suc n) = omega (arith, taken-small rows h n, takes-le (kindO
 -- The answers of a part that opened with cursor m: the first search, the reads left over, the second search.
 module _ (part reads : List ℕ) (c m : Cursor) (came : openAt part c 1 mostRows 4 ≡ Next m) (k : ℕ)
     (lowest : k ≡ first (breaksRules (drop 1 part) reads (c .variables) (m .count)) (m .count)) where
-  pub some-broken : k < m .count → rowsAt part reads c ≡ halt 6 k
+  pub some-broken : k < m .count → rowsAt part reads c ≡ halt rowBroken k
   unfolding rowsAt
   some-broken h = rw (came, ← lowest, lt-ltb k (m .count) h, zero-add k)
 
   module _ (whole : m .count ≤ k) (t : ℕ) (taken : t ≡ takenBefore (drop 1 part) (m .count)) where
-    pub some-left : t < c .reads → rowsAt part reads c ≡ halt 7 t
+    pub some-left : t < c .reads → rowsAt part reads c ≡ halt readsLeft t
     unfolding rowsAt
     some-left h = rw (came, ← lowest, le-ltb k (m .count) whole, ← taken, lt-ltb t (c .reads) h)
 
     module _ (all : c .reads ≤ t) (j : ℕ) (lowest-deep : j ≡ first (isDeep (drop 1 part)) (m .count)) where
-      pub some-deep : j < m .count → rowsAt part reads c ≡ halt 8 j
+      pub some-deep : j < m .count → rowsAt part reads c ≡ halt tooDeep j
       unfolding rowsAt
       some-deep h =
           rw (came, ← lowest, le-ltb k (m .count) whole, ← taken, le-ltb t (c .reads) all, ← lowest-deep, lt-ltb j (m .count) h, zero-add j)

@@ -29,7 +29,7 @@ use rows::depth::first_deep;
 use rows::first_broken;
 use rows::reads_taken;
 
-// A place between two sections: the position of the next count word, how many entries the section before it has, and
+// Between two sections: the position of the next count word, how many entries the section before it has, and
 // V, R and N once they are known.
 pub struct Cursor {
     pub at: usize,

@@ -4,27 +4,17 @@
 use Prim.Native.Nat.{ℕ, _<_, _≤_}
 use native.Mathlib.Omega.{arith}
 use mathlib.Core.Path.{_≡_, refl, sym, ap, subst, _∙_}
-use mathlib.Core.Bool.{Bool, false, not, true≢false}
-use mathlib.Core.List.{List, [], List·Memᴰ}
-use lib.Dec.{eqb, ltb}
+use mathlib.Core.List.{List}
+use lib.Dec.{ltb}
 use lib.ListN.{length, getD, drop, length-append}
 use lib.Seq.{take-at}
-use borrow.Author.Tests.{eqb-false, ltb-false, not-false}
+use Rattle.paper.specs.Refusals.{noCandidate, noOrder, variableMissed, variableTwice}
 use Rattle.paper.specs.declared.Refusal.{Refusal}
 use Rattle.paper.specs.Limits.{mostTransitions, mostDepth, slots}
-use Rattle.paper.specs.declared.Label.{Label}
 use Rattle.paper.specs.declared.Variable.{Variable}
-use Rattle.paper.specs.Lists.{anyOf, those}
-use Rattle.paper.specs.Formula.{isCandidate, Formula}
-use Rattle.paper.specs.Branch.{branches}
-use Rattle.paper.specs.Strategy.{Homogeneous, chosenOn, MinimalCovering}
 use Rattle.paper.specs.Transition.{keys}
-use Rattle.paper.specs.Judgement.{Judgement, accepted, refused, variables, strangers, missed, doubled}
+use Rattle.paper.specs.Judgement.{Judgement, accepted, refused, variables}
 use Rattle.paper.specs.Judgement.{judgeCount, judgeOrder, judge}
-use Rattle.paper.proofs.Bools.{not-so}
-use Rattle.paper.proofs.Lists.{to-any, of-none}
-use Rattle.paper.proofs.Labels.{has-mem}
-use Rattle.paper.proofs.Variables.{to-variables}
 use Rattle.paper.proofs.Numbers.{numbers-say}
 use Rattle.table.specs.declared.Layout.{Layout}
 use Rattle.table.specs.declared.Checked.the-variants.{Sound, Refused}
@@ -46,6 +36,7 @@ use Rattle.strategy.specs.declared.Accepted.{Accepted}
 use Rattle.strategy.specs.declared.Judged.{Judged}
 use Rattle.strategy.specs.declared.Judged.the-variants as answer
 use Rattle.strategy.specs.Verdict.{refusedAt, asJudged}
+use Rattle.paper.proofs.Judgement.{homogeneous-of, minimal-of}
 use Rattle.strategy.specs.Inside.Checks.{isStranger, countedAs}
 use Rattle.strategy.proofs.Verdicts.{counted-answer}
 use Rattle.strategy.specs.Judge.{proposalOf, proposalIn, judgedOf, wordsOfOrder, leftBy, orderIn, orderLeft, JudgedInto}
@@ -53,22 +44,6 @@ use Rattle.strategy.specs.Inside.Parts.{Parts, formulaOf, Covered, Judge
 use Rattle.strategy.proofs.Held.{lentRows, lentReads, lentChosen, of-lent, walkable, few-labels}
 use Rattle.strategy.proofs.Strangers.{first-stranger, no-stranger}
 use Rattle.strategy.proofs.Placed.{choice, some-cycle, reported-length, order-fits, order-refuses, order-passes, order-left}
-
--- What is passed: no strangers, and a minimal covering.
-module _ (#V : ℕ) (f : Formula) (A : List Label) where
-  homogeneous-of : strangers f A ≡ [] → Homogeneous f A
-  homogeneous-of e l h = not-false (isCandidate f l) (of-none (λ l. not (isCandidate f l)) A e l (has-mem A l h))
-
-  -- a test that no variable passes on any branch
-  never : (p : Variable → List Label → Bool) → those (λ v. anyOf (p v) (branches f)) (variables #V) ≡ []
-      → (v : Variable) → v .0 < #V → (b : List Label) → List·Memᴰ b (branches f) → p v b ≡ false
-  never p e v h b t = not-so (p v b) λ q. true≢false (sym (to-any (p v) t q) ∙ of-none (λ v. anyOf (p v) (branches f)) (variables #V) e v (to-variables #V v h))
-
-  minimal-of : missed #V f A ≡ [] → doubled #V f A ≡ [] → MinimalCovering #V f A
-  minimal-of e d n (b, t, v, h, q) =
-      let some = eqb-false (chosenOn f A b v) 0 (never (λ v b. eqb (chosenOn f A b v) 0) e v h b t) in
-      let few = ltb-false 1 (chosenOn f A b v) (never (λ v b. ltb 1 (chosenOn f A b v)) d v h b t) in
-      omega arith
 
 pub count-answers : {rows reads chosen : List ℕ} {#V #N : ℕ} {marks : List ℕ} (l : Layout) → Covered rows reads chosen #V #N → Marked (proposalOf chosen) marks
     → asJudged l (judgeCount #V (formulaOf rows reads) (proposalOf chosen)) ≡ countedAs l (total (keysAt rows marks mostDepth 0))
@@ -103,10 +78,11 @@ module _ {rows reads chosen : List ℕ} (l : Layout) {order₀ order : List ℕ}
   pub cycle-there : {k : ℕ} → count < length chosen → k ≡ lowestOnCycle rows reads chosen → (k < length chosen) × (length chosen ≤ 2047)
   cycle-there h e = (omega (arith, some-cycle c (omega (arith, filled .number))), choice c .few)
 
-  pub cycle-refused : {k : ℕ} {r : Judged} (lent : List ℕ) → count < length chosen → k ≡ lowestOnCycle rows reads chosen → r ≡ refusedAt 13 (getD chosen k 0)
+  pub cycle-refused : {k : ℕ} {r : Judged} (lent : List ℕ) → count < length chosen → k ≡ lowestOnCycle rows reads chosen
+      → r ≡ refusedAt noOrder (getD chosen k 0)
       → OrderedParts rows reads chosen l lent lent r
   cycle-refused lent h e q =
-      refused-so lent (order-refuses c (omega (arith, filled .number))) (q ∙ ap (λ n. refusedAt 13 (getD chosen n 0)) e)
+      refused-so lent (order-refuses c (omega (arith, filled .number))) (q ∙ ap (λ n. refusedAt noOrder (getD chosen n 0)) e)
 
   many : length (reported rows reads chosen) ≡ count
   many = reported-length c ∙ sym (filled .number)
@@ -145,10 +121,11 @@ module _ {rows reads chosen : List ℕ} (l : Layout) {order₀ order : List ℕ}
 -- 10 to 12: refused at a stranger; refused by the covering; or all passed
 module _ {rows reads chosen : List ℕ} (l : Layout) (p : Parts rows reads chosen (l .variables) (l .rows)) {k : ℕ}
     (found : k ≡ first (isStranger rows chosen) (length chosen)) where
-  pub stranger-refused : {r : Judged} (lent : List ℕ) → k < length chosen → r ≡ refusedAt 10 (getD chosen k 0) → JudgedParts rows reads chosen l lent lent r
+  pub stranger-refused : {r : Judged} (lent : List ℕ) → k < length chosen → r ≡ refusedAt noCandidate (getD chosen k 0)
+      → JudgedParts rows reads chosen l lent lent r
   stranger-refused lent h q =
       let (others, e) = first-stranger p (omega arith) in
-      refused-so lent (rw e) (q ∙ ap (λ n. refusedAt 10 (getD chosen n 0)) found)
+      refused-so lent (rw e) (q ∙ ap (λ n. refusedAt noCandidate (getD chosen n 0)) found)
 
   module _ {marks : List ℕ} (marked : Marked (proposalOf chosen) marks) (passed : length chosen ≤ k) where
     covering-decides : judgementBy rows reads chosen (l .variables)
@@ -157,11 +134,11 @@ module _ {rows reads chosen : List ℕ} (l : Layout) (p : Parts rows reads chose
         rw (no-stranger p (omega arith))
         (covering-says rows reads refl marked (few-labels p) (p .well-formed) (judgeOrder (l .variables) (formulaOf rows reads) (proposalOf chosen)))
 
-    pub missed-refused : {r : Judged} {v : Variable} (lent : List ℕ) → coveringOf rows marks (l .variables) ≡ Missed v → r ≡ refusedAt 11 (v .0)
+    pub missed-refused : {r : Judged} {v : Variable} (lent : List ℕ) → coveringOf rows marks (l .variables) ≡ Missed v → r ≡ refusedAt variableMissed (v .0)
         → JudgedParts rows reads chosen l lent lent r
     missed-refused lent e q = refused-so lent (covering-decides ∙ rw e) q
 
-    pub doubled-refused : {r : Judged} {v : Variable} (lent : List ℕ) → coveringOf rows marks (l .variables) ≡ Doubled v → r ≡ refusedAt 12 (v .0)
+    pub doubled-refused : {r : Judged} {v : Variable} (lent : List ℕ) → coveringOf rows marks (l .variables) ≡ Doubled v → r ≡ refusedAt variableTwice (v .0)
         → JudgedParts rows reads chosen l lent lent r
     doubled-refused lent e q = refused-so lent (covering-decides ∙ rw e) q
 

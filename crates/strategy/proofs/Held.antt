@@ -1,4 +1,4 @@
--- Sound words have sound parts (specs/Judge.antt, `Parts`), and sound parts are what the walks, the net and the order ask for:
+-- Sound words have sound parts (specs/Inside/Parts.antt), and sound parts are what the walks, the net and the order ask for:
 -- their rows write the formula that is read from them, form one tree, and have stars whose reads are there.
 use Prim.Native.Nat.{ℕ, zero, suc, _+_, _-_, _*_, _<_, _≤_}
 use native.Mathlib.Omega.{arith}

@@ -1,4 +1,4 @@
--- Refusal 13. The reported order over labels is that over their numbers, and so are the cycles. An order that places as many labels
+-- Refusal 13. The reported order over labels is that over their indices, and so are the cycles. An order that places as many labels
 -- as there are places all of them, so there is no cycle; one that places fewer leaves a cycle, since without one all are placed and
 -- labels that ascend are no more than the list that holds them all.
 use Prim.Native.Nat.{ℕ, zero, suc, _<_, _≤_}
@@ -8,7 +8,7 @@ use mathlib.Core.Bool.{Bool, true, false, not, false≢true}
 use mathlib.Core.List.{List, [], _∷_, map, map-map}
 use lib.ListN.{length, getD, length-map}
 use borrow.Author.Tests.{ne-eqb}
-use Rattle.paper.specs.Refusals.{refusal}
+use Rattle.paper.specs.Refusals.{refusal, noOrder}
 use Rattle.paper.specs.declared.Label.{Label}
 use Rattle.paper.specs.Lists.{those}
 use Rattle.paper.specs.Formula.{ℓ, same, has, Rising, Formula}
@@ -130,44 +130,44 @@ module _ {rows reads chosen : List ℕ} {#V #N : ℕ} (c : Covered rows reads ch
   abbrev A : List Label
   A = proposalOf chosen
 
-  by-numbers : order (before f A) A ≡ map (λ k. ℓ (getD chosen k 0)) (ordered rows reads chosen)
+  by-indices : order (before f A) A ≡ map (λ k. ℓ (getD chosen k 0)) (ordered rows reads chosen)
   unfolding ordered
-  by-numbers = order-by-rows rows reads f (parts-write p) chosen #N (rows-are p) (p .below) kinds (ascend-all chosen (p .ascends))
+  by-indices = order-by-rows rows reads f (parts-write p) chosen #N (rows-are p) (p .below) kinds (ascend-all chosen (p .ascends))
 
-  -- the labels of the numbers that are placed are the reported order
+  -- the labels of the indices that are placed are the reported order
   order-is : wordsOfOrder f A ≡ labelled chosen (ordered rows reads chosen)
-  order-is = ap (map (λ l. l .0)) by-numbers ∙ map-map (λ (l : Label). l .0) (λ k. ℓ (getD chosen k 0)) (ordered rows reads chosen)
+  order-is = ap (map (λ l. l .0)) by-indices ∙ map-map (λ (l : Label). l .0) (λ k. ℓ (getD chosen k 0)) (ordered rows reads chosen)
 
   pub reported-length : length (wordsOfOrder f A) ≡ length (ordered rows reads chosen)
   reported-length = ap length order-is ∙ length-map (ordered rows reads chosen) (λ k. getD chosen k 0)
 
   many-placed : length (order (before f A) A) ≡ length (ordered rows reads chosen)
-  many-placed = ap length by-numbers ∙ length-map (ordered rows reads chosen) (λ k. ℓ (getD chosen k 0))
+  many-placed = ap length by-indices ∙ length-map (ordered rows reads chosen) (λ k. ℓ (getD chosen k 0))
 
   -- no more are placed than there are
   pub order-fits : length (ordered rows reads chosen) ≤ length chosen
   order-fits = omega (arith, greedy-le (before f A) (length A) A, many-placed, length-map chosen ℓ)
 
-  as-numbered : (k : ℕ) → k < length chosen → isOnCycle rows reads chosen k ≡ onCycle (before f A) A (ℓ (getD chosen k 0))
+  as-indexed : (k : ℕ) → k < length chosen → isOnCycle rows reads chosen k ≡ onCycle (before f A) A (ℓ (getD chosen k 0))
   unfolding isOnCycle
-  as-numbered k h = sym (cycle-by-rows rows reads f (parts-write p) chosen #N (rows-are p) (p .below) kinds (ascend-all chosen (p .ascends)) k h)
+  as-indexed k h = sym (cycle-by-rows rows reads f (parts-write p) chosen #N (rows-are p) (p .below) kinds (ascend-all chosen (p .ascends)) k h)
 
-  -- fewer are placed: the lowest number on a cycle is one
+  -- fewer are placed: the lowest index on a cycle is one
   pub some-cycle : length (ordered rows reads chosen) < length chosen → lowestOnCycle rows reads chosen < length chosen
   unfolding lowestOnCycle
   some-cycle h = pick (lt-or-le (lowestOnCycle rows reads chosen) (length chosen)) (λ l. l) none
     where
       none : length chosen ≤ lowestOnCycle rows reads chosen → lowestOnCycle rows reads chosen < length chosen
       none l =
-          let e = none-offends (onCycle (before f A) A) chosen (isOnCycle rows reads chosen) as-numbered l in
+          let e = none-offends (onCycle (before f A) A) chosen (isOnCycle rows reads chosen) as-indexed l in
           let z = order-length f A (p .ascends) (acyclic-of f A e) in
           absurd (omega (arith, many-placed, length-map chosen ℓ))
 
   pub order-refuses : length (ordered rows reads chosen) < length chosen
-      → judgeOrder #V f A ≡ refused (refusal 13 (getD chosen (lowestOnCycle rows reads chosen) 0))
+      → judgeOrder #V f A ≡ refused (refusal noOrder (getD chosen (lowestOnCycle rows reads chosen) 0))
   unfolding lowestOnCycle
   order-refuses h =
-      let (others, e) = offender (onCycle (before f A) A) chosen (isOnCycle rows reads chosen) as-numbered (some-cycle h) in rw e
+      let (others, e) = offender (onCycle (before f A) A) chosen (isOnCycle rows reads chosen) as-indexed (some-cycle h) in rw e
 
   pub order-passes : length chosen ≤ length (ordered rows reads chosen) → judgeOrder #V f A ≡ judgeCount #V f A
   order-passes h = let e = all-placed f A (omega (arith, many-placed, length-map chosen ℓ)) in rw e

@@ -5,7 +5,7 @@ use mathlib.Core.Path.{_≡_, refl, sym, ap}
 use mathlib.Core.Bool.{Bool, true, false, cond}
 use lib.Dec.{ltb}
 use borrow.Author.Tests.{ltb-false, lt-ltb, le-ltb}
-use Rattle.paper.specs.Refusals.{refusal}
+use Rattle.paper.specs.Refusals.{refusal, tooMany}
 use Rattle.paper.specs.Limits.{mostTransitions}
 use Rattle.paper.specs.Judgement.{Judgement, accepted, refused}
 use Rattle.table.specs.declared.Layout.{Layout}
@@ -29,16 +29,17 @@ accepting l m (refused r) e = let z : _≡_ {A = ℕ} 0 1 = cc in absurd (omega 
 
 -- 14: the count t over the rows stands for the number of keys m
 pub counted-answer : (l : Layout) (v n s m t : ℕ) → ltb mostTransitions t ≡ ltb mostTransitions m → (t ≤ mostTransitions → t ≡ m)
-    → asJudged l (cond (ltb mostTransitions m) (refused (refusal 14 0)) (accepted v n s m)) ≡ countedAs l t
+    → asJudged l (cond (ltb mostTransitions m) (refused (refusal tooMany 0)) (accepted v n s m)) ≡ countedAs l t
 unfolding countedAs
 counted-answer l v n s m t past same = rw (← past) (by (ltb mostTransitions t) refl)
   where
-    by : (b : Bool) → ltb mostTransitions t ≡ b → asJudged l (cond b (refused (refusal 14 0)) (accepted v n s m)) ≡ cond b (refusedAt 14 0) (acceptedWith l t)
+    by : (b : Bool) → ltb mostTransitions t ≡ b
+        → asJudged l (cond b (refused (refusal tooMany 0)) (accepted v n s m)) ≡ cond b (refusedAt tooMany 0) (acceptedWith l t)
     by true e = refl
     by false e = ap (acceptedWith l) (sym (same (ltb-false mostTransitions t e)))
 
 module _ (l : Layout) {m n : ℕ} (e : n ≡ m) where
-  pub counted-past : {r : Judged} → mostTransitions < n → r ≡ refusedAt 14 0 → r ≡ countedAs l m
+  pub counted-past : {r : Judged} → mostTransitions < n → r ≡ refusedAt tooMany 0 → r ≡ countedAs l m
   unfolding countedAs
   counted-past h q = rw (← e, lt-ltb mostTransitions n h) q
 

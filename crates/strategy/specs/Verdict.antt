@@ -1,5 +1,4 @@
--- The verdict on a table's words: what is known of an accepted table, or a refusal; and what two checks of the proposal find, 10
--- and 14, which need the rows and no order.
+-- The verdict on a table's words: what is known of an accepted table, or a refusal.
 use Prim.Native.Nat.{ℕ}
 use Rattle.paper.specs.Refusals.{refusal}
 use Rattle.paper.specs.Judgement.{Judgement, accepted, refused}

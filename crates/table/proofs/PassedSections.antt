@@ -8,6 +8,7 @@ use borrow.Author.Tests.{ltb-false, le-ltb}
 use lib.Dec.{ltb}
 use lib.ListN.{length, getD, take, drop, length-drop}
 use lib.Seq.{drop-drop, getD-drop, length-take-le}
+use Rattle.paper.specs.Refusals.{readsLeft, tooDeep, entryUnfit, nameNotAbove, readBeyond, rowBroken}
 use Rattle.paper.specs.Limits.{mostChosen, mostReads, mostRows, mostVariables}
 use Rattle.sections.specs.declared.Cursor.{Cursor}
 use Rattle.sections.specs.declared.Step.{Step}
@@ -60,17 +61,18 @@ rowed m = Next (record { at = m .at; count = m .count; variables = m .variables;
 
 -- section 3 goes on if its rows take all reads and none is too deep
 abbrev rowedIf : List ℕ → ℕ → Cursor → Step
-rowedIf rows #R m = cond (ltb (takenBefore rows (m .count)) #R) (halt 7 (takenBefore rows (m .count))) (unless 8 0 (isDeep rows) (m .count) (rowed m))
+rowedIf rows #R m =
+    cond (ltb (takenBefore rows (m .count)) #R) (halt readsLeft (takenBefore rows (m .count))) (unless tooDeep 0 (isDeep rows) (m .count) (rowed m))
 
 rowed-of : (rows : List ℕ) (#R : ℕ) (m c : Cursor) → rowedIf rows #R m ≡ Next c
     → (#R ≤ takenBefore rows (m .count)) × (first (isDeep rows) (m .count) ≡ m .count) × (rowed m ≡ Next c)
 rowed-of rows #R m c e =
     let t = passed (ltb (takenBefore rows (m .count)) #R) _ _ c e in
-    let u = unless-of 8 0 (isDeep rows) (m .count) _ c (t .1) in
+    let u = unless-of tooDeep 0 (isDeep rows) (m .count) _ c (t .1) in
     (ltb-false _ _ (t .0), u .0, u .1)
 
 of-rowed : (rows : List ℕ) (#R : ℕ) (m : Cursor) → #R ≤ takenBefore rows (m .count) → first (isDeep rows) (m .count) ≡ m .count → rowedIf rows #R m ≡ rowed m
-of-rowed rows #R m h e = rw (le-ltb (takenBefore rows (m .count)) #R h) (of-unless 8 0 (isDeep rows) (m .count) _ e)
+of-rowed rows #R m h e = rw (le-ltb (takenBefore rows (m .count)) #R h) (of-unless tooDeep 0 (isDeep rows) (m .count) _ e)
 
 -- what is asked of an entry of section 4
 abbrev unfit : List ℕ → ℕ → ℕ → Bool
@@ -109,7 +111,7 @@ module _ (words : List ℕ) where
   pub names-of : (a : Cursor) → variablesAt words start ≡ Next a → NamesPassed a
   unfolding variablesAt
   names-of a e =
-      let h = held words start 1 mostVariables 1 4 1 (λ n. falls (drop 1 words)) named a e in
+      let h = held words start 1 mostVariables 1 nameNotAbove 1 (λ n. falls (drop 1 words)) named a e in
       record {
         count = h .n;
         cursor = one-cursor (h .went) (after-names (h .n));
@@ -120,13 +122,14 @@ module _ (words : List ℕ) where
   unfolding variablesAt
   of-names #V #R #N #S h room =
       let o : Opened words 1 mostVariables 1 #V = record { word = h .counted; least = h .some; most = h .most; room = omega arith } in
-      of-held words start 1 mostVariables 1 4 1 (λ n. falls (drop 1 words)) named #V o (h .ascend) ∙ after-names #V
+      of-held words start 1 mostVariables 1 nameNotAbove 1 (λ n. falls (drop 1 words)) named #V o (h .ascend) ∙ after-names #V
 
   pub reads-of : (#V : ℕ) (a b : Cursor) → a ≡ afterNames #V → readsAt (partAt words a) a ≡ Next b → ReadsPassed #V b
   unfolding readsAt
   reads-of #V a b q e =
       let es : drop 1 (drop (#V + 1) words) ≡ drop (#V + 2) words = entries-at words (#V + 1) (#V + 2) (omega arith) in
-      let h = held (drop (#V + 1) words) (afterNames #V) 0 mostReads 1 5 (#V + 1 + 1) (λ n. beyond (drop (#V + 2) words) #V) read b (simp (q, es) at e) in
+      let h = held (drop (#V + 1) words) (afterNames #V) 0 mostReads 1 readBeyond (#V + 1 + 1) (λ n. beyond (drop (#V + 2) words) #V) read b
+      (simp (q, es) at e) in
       record {
         count = h .n;
         cursor = one-cursor (h .went) (after-reads #V (h .n));
@@ -141,7 +144,7 @@ module _ (words : List ℕ) where
   unfolding readsAt
   of-reads #V #R #N #S h room =
       rw (entries-at words (#V + 1) (#V + 2) (omega arith))
-      (of-held (drop (#V + 1) words) (afterNames #V) 0 mostReads 1 5 (#V + 1 + 1) (λ n. beyond (drop (#V + 2) words) #V) read #R
+      (of-held (drop (#V + 1) words) (afterNames #V) 0 mostReads 1 readBeyond (#V + 1 + 1) (λ n. beyond (drop (#V + 2) words) #V) read #R
       (record { word = word-at words (#V + 1) ∙ h .counted; least = omega arith; most = h .most; room = omega (arith, length-drop (#V + 1) words) }) (h .below)
       ∙ after-reads #V #R)
 
@@ -156,7 +159,7 @@ module _ (words : List ℕ) where
       let rows = drop (#V + #R + 3) words in
       let reads = take #R (drop (#V + 2) words) in
       let es : drop 1 p ≡ rows = entries-at words (#V + #R + 2) (#V + #R + 3) (omega arith) in
-      let h = held p (afterReads #V #R) 1 mostRows 4 6 0 (λ n. breaksRules rows reads #V n) (rowedIf rows #R) c (simp (q, reads-before, es) at e) in
+      let h = held p (afterReads #V #R) 1 mostRows 4 rowBroken 0 (λ n. breaksRules rows reads #V n) (rowedIf rows #R) c (simp (q, reads-before, es) at e) in
       let w = rowed-of rows #R (behind (afterReads #V #R) 4 (h .n)) c (h .went) in
       let there = length-take-le #R (drop (#V + 2) words) (omega (arith, length-drop (#V + #R + 2) words, length-drop (#V + 2) words)) in
       record {
@@ -183,7 +186,7 @@ module _ (words : List ℕ) where
       let rows = drop (#V + #R + 3) words in
       let reads = take #R (drop (#V + 2) words) in
       rw (reads-before, entries-at words (#V + #R + 2) (#V + #R + 3) (omega arith))
-      (of-held p (afterReads #V #R) 1 mostRows 4 6 0 (λ n. breaksRules rows reads #V n) (rowedIf rows #R) #N
+      (of-held p (afterReads #V #R) 1 mostRows 4 rowBroken 0 (λ n. breaksRules rows reads #V n) (rowedIf rows #R) #N
       (record { word = word-at words (#V + #R + 2) ∙ h .counted; least = h .some; most = h .most; room = omega (arith, length-drop (#V + #R + 2) words) })
       (first-none _ #N (λ i k. rw (h .keep i k)))
       ∙ of-rowed rows #R (behind (afterReads #V #R) 4 #N) (omega arith) (h .shallow)
@@ -195,7 +198,7 @@ module _ (words : List ℕ) where
       let p = drop (#V + #R + 4 * #N + 3) words in
       let entries = drop (#V + #R + 4 * #N + 4) words in
       let es : drop 1 p ≡ entries = entries-at words (#V + #R + 4 * #N + 3) (#V + #R + 4 * #N + 4) (omega arith) in
-      let h = held p (afterRows #V #R #N) 0 mostChosen 1 9 0 (λ n. unfit entries #N) Next d (simp (q, es) at e) in
+      let h = held p (afterRows #V #R #N) 0 mostChosen 1 entryUnfit 0 (λ n. unfit entries #N) Next d (simp (q, es) at e) in
       record {
         count = h .n;
         cursor = one-cursor (h .went) (after-chosen #V #R #N (h .n));
@@ -212,7 +215,7 @@ module _ (words : List ℕ) where
       let p = #V + #R + 4 * #N + 3 in
       let entries = drop (#V + #R + 4 * #N + 4) words in
       rw (entries-at words p (#V + #R + 4 * #N + 4) (omega arith))
-      (of-held (drop p words) (afterRows #V #R #N) 0 mostChosen 1 9 0 (λ n. unfit entries #N) Next #S
+      (of-held (drop p words) (afterRows #V #R #N) 0 mostChosen 1 entryUnfit 0 (λ n. unfit entries #N) Next #S
       (record { word = word-at words p ∙ h .counted; least = omega arith; most = h .most; room = omega (arith, length-drop p words) })
       (h .fit)
       ∙ after-chosen #V #R #N #S)

@@ -7,7 +7,7 @@ use mathlib.Core.Bool.{true}
 use mathlib.Core.List.{List, [], _∷_}
 use lib.ListN.{getD, replicate}
 use Rattle.paper.specs.Formula.{ℓ, has}
-use Rattle.paper.specs.Structure.Kept.{keptAt}
+use Rattle.paper.specs.Inside.Structure.Kept.{keptAt}
 use Rattle.entries.specs.First.{first}
 use Rattle.rows.specs.Rows.{formOf, meets, takenBefore, falseRule, starRule, candidateRule, joinRule, boundRule, endsWithin, keepsRules}
 use Rattle.entries.specs.Entries.{ascend}

@@ -9,8 +9,8 @@ use lib.ListN.{drop, replicate, length-replicate}
 use Rattle.paper.specs.Limits.{mostDepth}
 use Rattle.paper.specs.declared.Label.{Label}
 use Rattle.paper.specs.Formula.{Formula, Formulas, FALSE, test, candidate, conjunction, disjunction, exists, IF, only, _⨾_}
-use Rattle.paper.specs.Structure.KeyCount.{keyCountOf, numberOf, numberOfEach}
-use Rattle.paper.specs.Structure.Kept.{keptAt, keptEach, keptAny, keptAll}
+use Rattle.paper.specs.Inside.Structure.KeyCount.{keyCountOf, numberOf, numberOfEach}
+use Rattle.paper.specs.Inside.Structure.Kept.{keptAt, keptEach, keptAny, keptAll}
 use Rattle.paper.proofs.Folds.{AtLeaves, AtLeavesOf}
 use Rattle.rows.specs.Formula.{formulaAt}
 use Rattle.keys.specs.declared.Distinct.{Distinct}

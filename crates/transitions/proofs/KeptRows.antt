@@ -13,8 +13,8 @@ use borrow.Author.Tests.{ltb-false, lt-ltb, eqb-true, eqb-false}
 use Rattle.paper.specs.Limits.{mostTransitions}
 use Rattle.paper.specs.declared.Label.{Label}
 use Rattle.paper.specs.Formula.{ℓ, Formula, Formulas}
-use Rattle.paper.specs.Structure.KeyCount.{keyCountOf, numberOf, numberOfEach}
-use Rattle.paper.specs.Structure.Kept.{keptAt, keptEach, keptAny, keptAll}
+use Rattle.paper.specs.Inside.Structure.KeyCount.{keyCountOf, numberOf, numberOfEach}
+use Rattle.paper.specs.Inside.Structure.Kept.{keptAt, keptEach, keptAny, keptAll}
 use Rattle.rows.specs.Rows.{kindOf, argOf, endOf, formOf}
 use Rattle.rows.specs.Formula.{starAt, childrenAt, nodeAt, formulaAt}
 use Rattle.rows.specs.Inside.Walk.{expressions, firstUnder, expressionsAt, firstAt, Walkable}

@@ -13,11 +13,11 @@ use Rattle.paper.specs.Formula.{ℓ, has, Formula, Rising, WellFormed}
 use Rattle.paper.specs.Branch.{branches}
 use Rattle.paper.specs.Strategy.{Homogeneous, MinimalCovering}
 use Rattle.paper.specs.Transition.{key, sameKey, class, keys, keyAt}
-use Rattle.paper.specs.Structure.KeyCount.{numberOf}
-use Rattle.paper.specs.Structure.Kept.{keptAt}
+use Rattle.paper.specs.Inside.Structure.KeyCount.{numberOf}
+use Rattle.paper.specs.Inside.Structure.Kept.{keptAt}
 use Rattle.paper.specs.Statements.{NumbersSay}
 use Rattle.paper.proofs.Bools.{same-answer}
-use Rattle.paper.proofs.Lists.{of-those, sub-those}
+use Rattle.paper.proofs.Lists.{of-those, sub-those, those-same}
 use Rattle.paper.proofs.Labels.{rising-ext, rising-sub, mem-has, has-those, those-has}
 use Rattle.paper.proofs.Distinct.{sameKey-eq}
 use Rattle.paper.proofs.Keys.{key-rises, of-key, to-key}
@@ -34,7 +34,7 @@ use Rattle.transitions.specs.Inside.Kept.{Keepable}
 use Rattle.transitions.specs.Inside.Assigned.{keptOf}
 use Rattle.transitions.specs.Statements.{kthBytes, TransitionSays, EachTransitionSays}
 use Rattle.transitions.proofs.MarkedBytes.{bytes-same}
-use Rattle.transitions.proofs.Words.{those-same, kept-labels, as-many-ordered}
+use Rattle.transitions.proofs.Words.{kept-labels, as-many-ordered}
 
 module _ (#V : ℕ) (f : Formula) (A : List Label) (formed : WellFormed #V f) (homogeneous : Homogeneous f A) (minimal : MinimalCovering #V f A)
     (rises : Rising 0 A) (k : ℕ) (h : k < length (keys f A)) where
@@ -68,7 +68,7 @@ module _ (#V : ℕ) (f : Formula) (A : List Label) (formed : WellFormed #V f) (h
     marks-are = bytes-same (λ l. sym (says .kth-kept k h l));
     chosen-are = λ n chosen e below. kept-labels (has kept) n chosen below ∙ ap (those (has kept)) (sym e) ∙ chosen-kept;
     key-has = key-length;
-    ordered-are = λ R n order o below b t. kept-labels (has kept) n order below ∙ those-same (map ℓ order) (λ l u. kept-on b t l (o .from l (mem-has u)));
+    ordered-are = λ R n order o below b t. kept-labels (has kept) n order below ∙ those-same _ _ (map ℓ order) (λ l u. kept-on b t l (o .from l (mem-has u)));
     ordered-as-many = λ R n order o below.
         sym (length-map (keptOf (kthBytes f A k n) order) ℓ) ∙ ap length (kept-labels (has kept) n order below)
         ∙ as-many-ordered R (has kept) rises o ∙ ap length chosen-kept ∙ key-length;

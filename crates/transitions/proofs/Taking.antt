@@ -10,7 +10,7 @@ use borrow.Author.Tests.{eq-eqb}
 use Rattle.paper.specs.Limits.{mostRows, mostTransitions}
 use Rattle.paper.specs.declared.Label.{Label}
 use Rattle.paper.specs.Formula.{ℓ}
-use Rattle.paper.specs.Structure.Kept.{keptAt}
+use Rattle.paper.specs.Inside.Structure.Kept.{keptAt}
 use Rattle.rows.specs.Rows.{kindOf, endOf, meets}
 use Rattle.rows.specs.Formula.{formulaAt}
 use Rattle.rows.specs.Inside.Walk.{expressionsAt, firstAt, Walkable}

@@ -4,7 +4,7 @@ use Prim.Native.Nat.{ℕ, suc, _<_, _≤_}
 use native.Mathlib.Omega.{arith}
 use mathlib.Core.Path.{_≡_, refl, sym, ap, subst, _∙_}
 use mathlib.Core.Bool.{Bool, true, false, cond, not, true≢false}
-use mathlib.Core.List.{List, [], _∷_, map, List·Memᴰ, List·Memᴰ·head, List·Memᴰ·tail}
+use mathlib.Core.List.{List, [], _∷_, map}
 use lib.Dec.{eqb}
 use lib.ListN.{length}
 use Rattle.paper.specs.declared.Label.{Label}
@@ -19,10 +19,6 @@ use Rattle.marks.specs.Inside.Chosen.{AllBelow}
 use Rattle.transitions.specs.Inside.Kept.{bytesOf}
 use Rattle.transitions.specs.Inside.Assigned.{keptOf}
 use Rattle.transitions.proofs.MarkedBytes.{bytes-at}
-
-pub those-same : {A : Type 0} {p q : A → Bool} (xs : List A) → ((a : A) → List·Memᴰ a xs → p a ≡ q a) → those p xs ≡ those q xs
-those-same [] e = refl
-those-same {p = p} {q = q} (x ∷ xs) e = rw (e x (List·Memᴰ·head refl), those-same {p = p} {q = q} xs (λ a t. e a (List·Memᴰ·tail t)))
 
 -- words below n, whose bytes are those of a test of labels
 module _ (p : Label → Bool) (n : ℕ) where

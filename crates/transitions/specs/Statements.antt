@@ -11,7 +11,7 @@ use Rattle.paper.specs.Formula.{ℓ, has, Formula, Rising, WellFormed}
 use Rattle.paper.specs.Order.{OrderOf}
 use Rattle.paper.specs.Strategy.{Homogeneous, MinimalCovering}
 use Rattle.paper.specs.Transition.{isKept, class, keys, keyAt}
-use Rattle.paper.specs.Structure.Kept.{keptAt}
+use Rattle.paper.specs.Inside.Structure.Kept.{keptAt}
 use Rattle.marks.specs.Inside.Chosen.{AllBelow}
 use Rattle.transitions.specs.Inside.Kept.{bytesOf}
 use Rattle.transitions.specs.Inside.Assigned.{keptOf}

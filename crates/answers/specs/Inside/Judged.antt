@@ -1,6 +1,6 @@
 -- What is known of an accepted table, and what the requests of a caller that has judged ask and leave.
 use Prim.Native.Nat.{ℕ, _≤_, _<_}
-use mathlib.Core.List.{List, map}
+use mathlib.Core.List.{List}
 use mathlib.Core.Path.{_≡_}
 use lib.ListN.{length, take}
 use Rattle.paper.specs.Limits.{mostChosen, mostDepth, mostRows, mostTransitions, mostVariables}
@@ -14,7 +14,7 @@ use Rattle.filling.specs.declared.Filled.{Filled}
 use Rattle.filling.specs.declared.Filled.the-variants as filled
 use Rattle.strategy.specs.declared.Accepted.{Accepted}
 use Rattle.strategy.specs.declared.Judged.the-variants as judged
-use Rattle.strategy.specs.Judge.{judgedOf, proposalIn}
+use Rattle.strategy.specs.Judge.{judgedOf, orderIn, proposalIn}
 use Rattle.answers.specs.declared.Counts.{Counts}
 use Rattle.answers.specs.declared.numbered.Basis.{Basis}
 use Rattle.answers.specs.Requests.{reported, keyOf, keptMarks, assignedOf}
@@ -44,7 +44,7 @@ AcceptedAs words a = judgedOf words ≡ judged.Accepted a
 
 pub record Ordered (words : List ℕ) (a : Accepted) (order : List ℕ) : Type 0 where
   pub accepted : AcceptedAs words a
-  pub in-front : take (a .layout .chosen) order ≡ map (λ i. i .0) (reported words (a .layout))
+  pub in-front : take (a .layout .chosen) order ≡ orderIn words (a .layout)
 
 -- What the transitions of words laid out so are worked out from: the marks of the chosen labels, and the keys of the formula. The marks
 -- that are made are 0 or 1.

@@ -10,7 +10,7 @@ use Rattle.paper.specs.Limits.{mostDepth}
 use Rattle.paper.specs.declared.Variable.{Variable}
 use Rattle.paper.specs.Formula.{𝓋}
 use Rattle.paper.specs.Judgement.{Judgement, refused}
-use Rattle.paper.specs.Structure.Fold.{Fold}
+use Rattle.paper.specs.Inside.Structure.Fold.{Fold}
 use Rattle.entries.specs.First.{first}
 use Rattle.rows.specs.Inside.Walk.{valueAt}
 use Rattle.cover.specs.declared.Masks.{Masks}

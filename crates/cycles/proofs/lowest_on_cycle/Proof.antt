@@ -9,9 +9,9 @@ use Rattle.paper.proofs.Bools.{not-so}
 use Rattle.entries.proofs.First.{first-same}
 use Rattle.cycles.specs.Inside.Cyclic.{isOnCycle, lowestOnCycle}
 use Rattle.fingers.specs.Inside.Graph.{free}
-use Rattle.cycles.specs.Inside.Path.{isOnRing, Walked, Best}
+use Rattle.cycles.specs.Inside.Path.{isCyclic, Walked, Best}
 use Rattle.fingers.specs.Inside.Spots.{graphOf}
-use Rattle.fingers.proofs.Tests.{never}
+use Rattle.paper.proofs.Tests.{never}
 use Rattle.fingers.proofs.Seeking.{started}
 use Rattle.cycles.proofs.Steps.{empty-first, best-start, best-first}
 use borrow.Author.Needs.{needs}
@@ -67,7 +67,7 @@ loop-again c =
     (omega (arith, l), t .path, t .best-so-far, below-more _ _ (λ i hi. not-so _ (λ e. never _ (t .grown i (omega (arith, l)) e) (v .3 i hi))) (t .taken))
 
 returns : tie.Need-returns Inv-loop μ-loop
-unfolding lowestOnCycle isOnCycle isOnRing
+unfolding lowestOnCycle isOnCycle isCyclic
 returns c =
     let v = c .before .loop .inv in
     best-first _ _ _ _ _ _ (v .1) (v .2) (λ i hi. v .3 i (omega (arith, c .loop-test .left))) ∙ first-same _ _ _ (λ k h. refl)

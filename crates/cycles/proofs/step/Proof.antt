@@ -18,7 +18,7 @@ module _ (c : tie.Start) where
   bounded : let a = c .args in (base (a .bound .now) (a .w .top) < a .w .len) × (a .w .len < slots)
   bounded = let b = bound-in _ _ _ _ _ _ _ _ (c .pre .2) some in (b .0, omega (arith, b .1, c .pre .0 .choice .few))
 
--- where the last segment is not done, the walk stands on a number of it
+-- where the last segment is not done, the walk stands on an index of it
 module _ (c : tie.Else1) where
   abbrev entry : tie.Start
   entry = c .before .before .before .before .before
@@ -26,8 +26,8 @@ module _ (c : tie.Else1) where
   ahead : let a = entry .args in base (a .bound .now) (a .w .top) < a .w .at
   ahead = ahead-of _ _ _ _ _ _ _ _ (entry .pre .2) (some entry) (c .if1 .left)
 
-  number : let j = getD (entry .args .stack .now) (entry .args .w .at - 1) 0 in (j < length (entry .args .chosen .now)) × (j < slots)
-  number = let j = index-in _ _ _ _ _ _ _ _ (entry .pre .2) (some entry) ahead in (j, omega (arith, entry .pre .0 .choice .few))
+  index : let j = getD (entry .args .stack .now) (entry .args .w .at - 1) 0 in (j < length (entry .args .chosen .now)) × (j < slots)
+  index = let j = index-in _ _ _ _ _ _ _ _ (entry .pre .2) (some entry) ahead in (j, omega (arith, entry .pre .0 .choice .few))
 
 sub-b : tie.Need-sub-b
 sub-b c = let h = some (c .before .before .before) in omega arith
@@ -70,25 +70,25 @@ element-copy-out-j : tie.Need-element-copy-out-j
 element-copy-out-j c = search needs
 
 cast-j : tie.Need-cast-j
-cast-j c = omega (arith, number (c .before) .1)
+cast-j c = omega (arith, index (c .before) .1)
 
 mul-seek : tie.Need-mul-seek
-mul-seek c = omega (arith, number (c .before .before) .1)
+mul-seek c = omega (arith, index (c .before .before) .1)
 
 element-copy-out-seek : tie.Need-element-copy-out-seek
-element-copy-out-seek c = omega (arith, number (c .before .before) .1)
+element-copy-out-seek c = omega (arith, index (c .before .before) .1)
 
 seek-requires : tie.Need-seek-requires
 seek-requires c κs =
     let entry = c .before .before .before .before .before .before .before .before in
-    let here = number (c .before .before .before) .0 in
+    let here = index (c .before .before .before) .0 in
     (entry .pre .0, record { low = omega (arith, bounded entry); here = here; finger = entry .pre .2 .within _ here })
 
 mul-finger : tie.Need-mul-finger
-mul-finger c = omega (arith, number (c .before .before .before .before) .1)
+mul-finger c = omega (arith, index (c .before .before .before .before) .1)
 
 element-write-finger : tie.Need-element-write-finger
-element-write-finger c = omega (arith, number (c .before .before .before .before) .1)
+element-write-finger c = omega (arith, index (c .before .before .before .before) .1)
 
 sub-w-2 : tie.Need-sub-w-2
 sub-w-2 c = let u = ahead (c .before .before .before .before .before) in omega arith

@@ -10,8 +10,8 @@ use Rattle.paper.specs.Lists.{upTo}
 use Rattle.fingers.specs.Inside.Graph.{Graph, free, leftOf}
 
 -- i lies on a cycle
-unfoldable pub isOnRing : Graph → ℕ → Bool
-isOnRing g i = onCycle (g .before) (upTo (g .size)) i
+unfoldable pub isCyclic : Graph → ℕ → Bool
+isCyclic g i = onCycle (g .before) (upTo (g .size)) i
 
 -- a chain leads from i to j
 pub data Trail (g : Graph) : ℕ → ℕ → Type 0 where
@@ -52,11 +52,12 @@ pub record Walked (g : Graph) (mark stack bound finger : List ℕ) (len top at :
 -- best is the lowest index that is known to be on a cycle, or the size: lower than any that is before itself or is done and on one
 pub record Best (g : Graph) (mark : List ℕ) (best : ℕ) : Type 0 where
   pub to : best ≤ g .size
-  pub cyclic : best < g .size → isOnRing g best ≡ true
+  pub cyclic : best < g .size → isCyclic g best ≡ true
   pub self : (i : ℕ) → i < g .size → g .before i i ≡ true → best ≤ i
-  pub least : (i : ℕ) → i < g .size → getD mark i 0 ≡ 1 → isOnRing g i ≡ true → best ≤ i
+  pub least : (i : ℕ) → i < g .size → getD mark i 0 ≡ 1 → isCyclic g i ≡ true → best ≤ i
 
--- how far the walk has to go: new indices, segments, indices whose fingers may move
+-- how far the walk has to go: new indices, segments, indices whose fingers may move; there are fewer than 2,049 of the last two each, and
+-- 4,198,401 is 2,049 squared
 unfoldable pub weight : Graph → List ℕ → ℕ → ℕ → ℕ
 weight g mark top at = length (leftOf (g .size) mark) * 4198401 + top * 2049 + at
 

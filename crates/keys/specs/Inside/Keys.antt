@@ -2,13 +2,15 @@
 use Prim.Native.Nat.{ℕ, _+_, _*_, min}
 use mathlib.Core.Bool.{Bool, true, false, cond, _&&_, _||_}
 use mathlib.Core.List.{List}
-use Rattle.paper.specs.Structure.Fold.{Fold}
+use Rattle.paper.specs.Limits.{mostTransitions}
+use Rattle.paper.specs.Inside.Structure.Fold.{Fold}
 use Rattle.rows.specs.Inside.Walk.{valueAt}
 use Rattle.keys.specs.declared.Distinct.{Distinct}
 use Rattle.marks.specs.Marks.{isMarked}
 
+-- one more than an accepted table can have
 abbrev pub limit : ℕ
-limit = 65536
+limit = mostTransitions + 1
 
 abbrev pub keysOf : ℕ → Bool → Distinct
 keysOf n e = record { more = n; empty = e }

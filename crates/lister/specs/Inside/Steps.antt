@@ -1,11 +1,10 @@
--- What the lister's functions ask for and leave: what was read, accepted words with their order, the parts of a listing, and how far it is
--- written.
-use Prim.Native.Nat.{ℕ, zero, suc, _+_, _-_, _*_, _^_, _<_, _≤_}
-use mathlib.Core.Bool.{true, false, cond}
-use mathlib.Core.List.{List, []}
+-- What the lister's functions ask for and leave: accepted words with their order, and the parts of a listing.
+use Prim.Native.Nat.{ℕ, zero, suc, _+_, _-_, _*_, _≤_}
+use mathlib.Core.Bool.{cond}
+use mathlib.Core.List.{List, [], _++_}
 use mathlib.Core.Path.{_≡_}
 use lib.Dec.{ltb}
-use lib.ListN.{length, take, drop}
+use lib.ListN.{length}
 use Rattle.paper.specs.Limits.{mostBytes, mostRows, mostTransitions, mostVariables, slots}
 use Rattle.table.specs.declared.Layout.{Layout}
 use Rattle.keys.specs.declared.Distinct.{Distinct}
@@ -16,17 +15,9 @@ use Rattle.input.specs.Bytes.{wordsOf, judgedBytes}
 use Rattle.answers.specs.declared.numbered.Basis.{Basis}
 use Rattle.answers.specs.Inside.Judged.{AcceptedAs, Ordered, Based, BasedExactly}
 use Rattle.listing.specs.Inside.Placed.{Put}
-use Rattle.lister.specs.declared.Ran.{Ran}
 use Rattle.lister.specs.declared.lines.Lines.{Lines}
-use Rattle.lister.specs.declared.output.Written.{Written}
 use Rattle.lister.specs.declared.parts.Part.{Part}
-use Rattle.lister.specs.declared.reading.Read.{Read}
-use Rattle.lister.specs.Listing.{lineOf, linesFrom, firstOf, listingOf}
-
--- at most so many bytes are read; fewer only where a reading call gave nothing more
-pub record ReadSo (read : Read) : Type 0 where
-  pub within : read .count ≤ mostBytes
-  pub full : read .ended ≡ false → read .count ≡ mostBytes
+use Rattle.lister.specs.Listing.{lineOf, linesFrom, firstOf, transitionsOf, linesBelow}
 
 -- counts that fit, an order of so many labels, and room for two lines
 pub record Headed (a : Accepted) (order text : List ℕ) : Type 0 where
@@ -71,6 +62,14 @@ pub record LinesPut (words : List ℕ) (a : Accepted) (k : ℕ) (lent left : Lis
   pub many : lines .count ≡ manyLines words a (length lent) k
   pub put : Put lent 0 (linesFrom words (a .layout) k (lines .count)) left (lines .length)
 
+-- The listing in pieces: piece 0 is the first part, and piece k + 1 the line of transition k. How many there are, and those below n joined.
+abbrev pub pieces : Judged → ℕ
+pieces j = transitionsOf j + 1
+
+abbrev pub piecesBelow : List ℕ → Judged → ℕ → List ℕ
+piecesBelow words j zero = []
+piecesBelow words j (suc k) = firstOf words j ++ linesBelow words j k
+
 -- The part that begins with piece n, with so much room: how many pieces it has, and its bytes.
 abbrev pub manyPieces : List ℕ → Judged → ℕ → ℕ → ℕ
 manyPieces words j room zero = 1
@@ -96,24 +95,3 @@ pub record Prepared (bytes words : List ℕ) (j : Judged) (order : List ℕ) : T
   pub answered : j ≡ judgedBytes bytes
   pub words-are : words ≡ wordsOf bytes
   pub ordered : OrderedIf words j order
-
--- The part of a listing that comes next: all before it was given and taken, and it is what follows there.
-pub record NextPart (listing : List ℕ) (w : Written) (part : List ℕ) : Type 0 where
-  pub taken : w .whole ≡ true
-  pub follows : part ≡ take (length part) (drop (w .at) listing)
-  pub few : w .at + length part < 2 ^ 64
-
--- it was given: and taken, or not
-pub record HandedOver (before : Written) (part : List ℕ) (after : Written) : Type 0 where
-  pub taken : after .whole ≡ true → after .at ≡ before .at + length part
-  pub not-taken : after .whole ≡ false → after .at ≡ before .at
-
--- How far a listing is written: all of it, where all that was given was taken.
-pub record Reached (listing : List ℕ) (w : Written) : Type 0 where
-  pub within : w .at ≤ length listing
-  pub all : w .whole ≡ true → w .at ≡ length listing
-
--- What was read stands in front of the buffer, and its listing is written so far.
-pub record RanSo (buffer : List ℕ) (r : Ran) : Type 0 where
-  pub read-so : ReadSo (r .read)
-  pub written-so : Reached (listingOf (take (r .read .count) buffer)) (r .written)

@@ -9,7 +9,7 @@ use mathlib.Core.Path.{_≡_}
 use mathlib.Core.List.{List}
 use lib.Dec.{eqb, ltb}
 use lib.ListN.{length, getD}
-use Rattle.paper.specs.Limits.{mostCandidates, mostVariables}
+use Rattle.paper.specs.Limits.{mostCandidates, mostRows, mostVariables, slots}
 use Rattle.entries.specs.First.{first}
 use Rattle.rows.specs.Rows.{kindOf, argOf, endOf}
 use Rattle.rows.specs.Inside.Looks.{Nested}
@@ -18,16 +18,16 @@ use Rattle.net.specs.Inside.Prior.{overBoth, shareBranchIn}
 
 -- where each part begins, and the whole length
 abbrev pub guardsFrom : ℕ
-guardsFrom = 4096
+guardsFrom = mostRows
 
 abbrev pub nextsFrom : ℕ
-nextsFrom = 8192
+nextsFrom = guardsFrom + mostRows
 
 abbrev pub firstsFrom : ℕ
-firstsFrom = 10240
+firstsFrom = nextsFrom + slots
 
 abbrev pub netLength : ℕ
-netLength = 11264
+netLength = firstsFrom + mostVariables
 
 -- Rows of one tree: nested, the first over all others, with no row under the star of an exists or an IF, and none under a
 -- candidate but its star.

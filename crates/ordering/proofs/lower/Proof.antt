@@ -4,7 +4,7 @@ use native.Mathlib.Omega.{arith}
 use mathlib.Core.Path.{ap}
 use lib.ListN.{length, getD, length-set}
 use lib.Seq.{getD-set-same}
-use Rattle.fingers.proofs.Tests.{at-set}
+use Rattle.paper.proofs.Tests.{at-set}
 use borrow.Author.Needs.{needs}
 use Rattle.ordering.proofs.lower.Statement.{statement}
 use Rattle.ordering.proofs.lower.Tie as tie

@@ -1,4 +1,4 @@
--- What a walk over the rows of a formula goes by: the expressions right under a row, and the value that a reading of
+-- What a walk over the rows of a formula goes by: the expressions right under a row, and the value that a fold of
 -- formulas has at a row and at the rest of a join's children (document 01, "Nested rows are walked by recursion").
 use Prim.Native.Nat.{ℕ, zero, suc, _+_, _*_, _<_, _≤_}
 use mathlib.Core.Bool.{Bool, true}
@@ -7,7 +7,7 @@ use mathlib.Core.Path.{_≡_}
 use lib.ListN.{length}
 use Rattle.paper.specs.Limits.{mostRows}
 use Rattle.paper.specs.Formula.{Formula}
-use Rattle.paper.specs.Structure.Fold.{Fold, foldOf}
+use Rattle.paper.specs.Inside.Structure.Fold.{Fold, foldOf}
 use Rattle.rows.specs.Rows.{kindOf, argOf, endOf, Form, aFALSE, aStar, aCandidate, aConjunction, aDisjunction, anExists, anIF, noForm, formOf, meets}
 use Rattle.rows.specs.Formula.{formulaAt}
 
@@ -55,12 +55,12 @@ pub record Walkable (rows : List ℕ) (#N i : ℕ) : Type 0 where
   pub shaped : Shaped rows #N
   pub here : i < #N
 
--- The formula at row i with stars that read nothing, so many levels deep at most: no reading looks at what stars read.
+-- The formula at row i with stars that read nothing, so many levels deep at most: no fold looks at what stars read.
 abbrev pub skeletonAt : List ℕ → ℕ → ℕ → Formula
 skeletonAt rows left i = formulaAt rows [] left i
 
 module _ {A : Type 0} (r : Fold A) (rows : List ℕ) where
-  -- what the reading has at row i
+  -- what the fold has at row i
   unfoldable pub valueAt : ℕ → ℕ → A
   valueAt left i = foldOf r (skeletonAt rows left i)
 

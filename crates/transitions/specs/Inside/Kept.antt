@@ -9,7 +9,7 @@ use lib.ListN.{length, set, drop}
 use Rattle.paper.specs.Limits.{mostDepth, mostRows, mostTransitions}
 use Rattle.paper.specs.declared.Label.{Label}
 use Rattle.paper.specs.Formula.{has}
-use Rattle.paper.specs.Structure.Kept.{keptAt}
+use Rattle.paper.specs.Inside.Structure.Kept.{keptAt}
 use Rattle.rows.specs.Formula.{formulaAt}
 use Rattle.rows.specs.Inside.Walk.{Walkable}
 use Rattle.written.specs.Written.{labelsOn}

@@ -3,7 +3,7 @@ use native.Mathlib.Omega.{arith}
 use mathlib.Core.Path.{_≡_, sym, ap, subst}
 use Prim.Native.Nat.{_≤_}
 use borrow.Author.Needs.{needs}
-use Rattle.lister.specs.Listing.{pieces}
+use Rattle.lister.specs.Inside.Steps.{pieces}
 use Rattle.lister.proofs.parts.pieces_of.Statement.{statement}
 use Rattle.lister.proofs.parts.pieces_of.Tie as tie
 

@@ -2,7 +2,7 @@
 use Prim.Native.Nat.{_<_}
 use mathlib.Core.Path.{sym, subst}
 use borrow.Author.Needs.{needs}
-use Rattle.lister.specs.Listing.{pieces}
+use Rattle.lister.specs.Inside.Steps.{pieces}
 use Rattle.lister.specs.Inside.Steps.{PartPut}
 use Rattle.lister.proofs.PartsPut.{refused-part}
 use Rattle.lister.proofs.parts.put_part.Statement.{statement}

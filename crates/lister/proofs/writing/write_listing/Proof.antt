@@ -5,7 +5,7 @@ use mathlib.Core.Path.{sym, _∙_}
 use borrow.Author.Needs.{needs}
 use borrow.Author.Tests.{not-true, not-false}
 use lib.Seq.{length-take-le}
-use Rattle.lister.specs.Listing.{pieces}
+use Rattle.lister.specs.Inside.Steps.{pieces}
 use Rattle.lister.proofs.Asked.{listable-if}
 use Rattle.lister.proofs.Written.{Writing, writing-begins, few-pieces, are-accepted, length-there, goes-on, next-part, writing-goes-on}
 use Rattle.lister.proofs.Written.{writing-stops, writing-ends}

@@ -16,6 +16,7 @@ use Rattle.rows.proofs.Depths.{top-deep}
 use Rattle.sections.proofs.Opened.{Opening, opened-with, entries-there}
 use Rattle.sections.proofs.ThirdSection.{none-broken, walk-asks, taken-small, some-broken, some-left, some-deep, none-deep}
 use borrow.Author.Needs.{needs}
+use Rattle.paper.specs.Refusals.{rowBroken, tooDeep}
 use Rattle.paper.specs.Limits.{mostRows}
 use Rattle.sections.proofs.Cursor.rows.Statement.{statement}
 use Rattle.sections.proofs.Cursor.rows.Tie as tie
@@ -94,7 +95,7 @@ refused-requires c κs = search needs
 returns-2 : tie.Need-returns-2
 returns-2 c =
     let s = c .before .before .before .before in
-    c .refused .ensures ∙ ap (halt 6) (c .before .wide .ensures)
+    c .refused .ensures ∙ ap (halt rowBroken) (c .before .wide .ensures)
     ∙ sym (some-broken _ _ _ _ (opens (opening s) .came) _ (lowest s) (c .before .before .if1 .taken))
 
 reads-taken-requires : tie.Need-reads-taken-requires
@@ -131,7 +132,7 @@ returns-4 c =
     let d = c .before .before .before .before in
     let s = counted d in
     let f = searched s in
-    c .refused3 .ensures ∙ ap (halt 8) (c .before .wide2 .ensures)
+    c .refused3 .ensures ∙ ap (halt tooDeep) (c .before .wide2 .ensures)
     ∙ sym (some-deep _ _ _ _ (opens (opening f) .came) _ (lowest f) (s .before .if1 .left) _ (taken s) (d .before .if2 .left) _ (lowest-deep d)
     (c .before .before .if3 .taken))
 

@@ -7,6 +7,7 @@ use Rattle.sections.specs.Sections.{halt, strategyAt}
 use Rattle.rows.proofs.Rules.{rest}
 use Rattle.sections.proofs.Opened.{Opening, opened-with, some-bad, none-bad, entries-there}
 use borrow.Author.Needs.{needs}
+use Rattle.paper.specs.Refusals.{entryUnfit}
 use Rattle.paper.specs.Limits.{mostChosen}
 use Rattle.sections.proofs.Cursor.strategy.Statement.{statement}
 use Rattle.sections.proofs.Cursor.strategy.Tie as tie
@@ -46,7 +47,8 @@ returns-2 : tie.Need-returns-2
 unfolding strategyAt
 returns-2 c =
     let o = opens (c .before .before .before .before .before) in
-    c .refused .ensures ∙ ap (halt 9) (sym (zero-add _)) ∙ some-bad o _ _ _ _ (simp rest at (c .before .before .first-unfit .ensures)) (c .before .if1 .taken)
+    c .refused .ensures ∙ ap (halt entryUnfit) (sym (zero-add _))
+    ∙ some-bad o _ _ _ _ (simp rest at (c .before .before .first-unfit .ensures)) (c .before .if1 .taken)
 
 returns-3 : tie.Need-returns-3
 unfolding strategyAt

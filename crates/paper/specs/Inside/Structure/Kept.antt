@@ -5,7 +5,7 @@ use mathlib.Core.Bool.{cond}
 use mathlib.Core.List.{List, [], _∷_, _++_}
 use lib.Dec.{eqb, ltb}
 use Rattle.paper.specs.Formula.{Label, Formula, Formulas, FALSE, test, candidate, conjunction, disjunction, exists, IF, only, _⨾_}
-use Rattle.paper.specs.Structure.KeyCount.{keyCountOf, numberOf, numberOfEach}
+use Rattle.paper.specs.Inside.Structure.KeyCount.{keyCountOf, numberOf, numberOfEach}
 
 -- of a child that stands beside others: what its first key keeps, or nothing where it has no key
 abbrev pub whereAny : ℕ → List Label → List Label

@@ -4,7 +4,7 @@ use Prim.Native.Nat.{ℕ, _+_, _*_}
 use mathlib.Core.Bool.{Bool, true, false, cond, _&&_, _||_}
 use mathlib.Core.List.{List}
 use Rattle.paper.specs.Formula.{Label, has, Formula, Formulas, only, _⨾_}
-use Rattle.paper.specs.Structure.Fold.{Fold, foldOf}
+use Rattle.paper.specs.Inside.Structure.Fold.{Fold, foldOf}
 
 -- how many keys are not empty, and whether the empty key is one of them
 pub record KeyCount : Type 0 where

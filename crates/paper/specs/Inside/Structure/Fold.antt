@@ -1,5 +1,5 @@
--- A reading of formulas by their form: a value for each leaf, and how the values of a join's children are joined from
--- a unit on. Branches are a reading, and so is what code works out by one walk over the rows.
+-- A fold over formulas by their form: a value for each leaf, and how the values of a join's children are joined from
+-- a unit on. Branches are a fold, and so is what code works out by one walk over the rows.
 use mathlib.Core.Bool.{Bool, true, false}
 use Rattle.paper.specs.Formula.{Label, Variable, Formula, Formulas, FALSE, test, candidate, conjunction, disjunction, exists, IF, only, _⨾_}
 

@@ -2,7 +2,7 @@
 use mathlib.Core.Bool.{Bool, true, false, _&&_, _||_}
 use mathlib.Core.List.{List}
 use Rattle.paper.specs.Formula.{Label, Variable, has, alike, Formula}
-use Rattle.paper.specs.Structure.Fold.{Fold, foldOf}
+use Rattle.paper.specs.Inside.Structure.Fold.{Fold, foldOf}
 
 -- there is a branch; each branch has a chosen candidate of the variable; some branch has one; some branch has two or more
 pub record Cover : Type 0 where
