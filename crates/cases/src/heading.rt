@@ -5,7 +5,7 @@ use crate::scan::{FIELD, after, find, number_at};
 
 // How many numbers there are, two at most, and which; and the position after the colon. Where there is no such heading, it has
 // three numbers, which no request takes.
-#[derive(Drop)]
+#[derive(Clone, Copy)]
 pub struct Heading {
     pub numbers: usize,
     pub first: usize,

@@ -7,6 +7,8 @@
 // row with that label and for the one behind its subtree, and print `row` with label, kind, arg, end and from, or `absent`.
 // Fields are parted by spaces, commas or semicolons. `#` starts a comment line; an empty line is passed over. Of a malformed
 // line the column is printed where that shows.
+#![tactic(auto)]
+
 mod heading; // what stands between a request and the words
 mod lent; // the requests that fill a lent slice
 mod requests; // the requests, and what is printed of their answers

@@ -72,7 +72,7 @@ pub fn is_word(field: &[u8], word: &[u8]) -> bool {
 
 // A number and the position after it. Where there is none, the value is one that is no word, and `end` is the position that
 // was asked.
-#[derive(Drop)]
+#[derive(Clone, Copy)]
 pub struct Number {
     pub value: usize,
     pub end: usize,

@@ -6,7 +6,7 @@ ghost use Rattle.cases.specs.Scan.{Laid};
 use crate::scan::{FIELD, Number, after, after_both, find, number_at};
 
 // Where laying out words has come to in the line, and how many there are; `at` is 0 where what stands there makes no words.
-#[derive(Drop)]
+#[derive(Clone, Copy)]
 pub struct Place {
     pub at: usize,
     pub count: usize,

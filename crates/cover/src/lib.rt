@@ -1,5 +1,7 @@
 // What the branches of a formula have of each variable, counted by recursion over the rows, 64 variables at a time: refusals 11
 // and 12.
+#![tactic(auto)]
+
 ghost use Rattle.std.specs.Prelude.{◌≡◌, ◌+◌, ◌≤◌, ◌<◌, min};
 ghost use Rattle.entries.specs.First.{first};
 ghost use Rattle.rows.specs.Inside.Walk.{Walkable};
@@ -14,7 +16,7 @@ use rows::{arg_of, end_of, kind_of};
 
 // Over the branches of a formula, for 64 variables at a time: bit b of `always` if each branch has a chosen candidate of
 // variable 64 * block + b, of `ever` if some has one, of `twice` if some has two or more; `live` if there is a branch.
-#[derive(Drop)]
+#[derive(Clone, Copy)]
 pub struct Masks {
     pub live: bool,
     pub always: u64,
@@ -23,7 +25,7 @@ pub struct Masks {
 }
 
 // Whether each variable has exactly one chosen label on each branch.
-#[derive(Drop)]
+#[derive(Clone, Copy)]
 pub enum Covering {
     Missed(Variable),
     Doubled(Variable),

@@ -2,6 +2,8 @@
 // in the strategy. The indices are walked against "before", each once. The path of the walk falls into segments: the indices of
 // one lead to one another. An index before the last one that lies on the path joins the segments from its own on; a segment whose
 // fingers have run out is done, and is on a cycle if it has two indices or more. An index that is before itself is found beforehand.
+#![tactic(auto)]
+
 ghost use Rattle.std.specs.Prelude.{◌≡◌, ℕ, ◌+◌, ◌-◌, ◌<◌, ◌≤◌, length, get_or};
 ghost use Rattle.net.specs.Inside.Prior.{prior};
 ghost use Rattle.cycles.specs.Inside.Cyclic.{lowest_on_cycle};
@@ -19,7 +21,7 @@ use rows::{arg_of, from_of};
 
 // Where the walk stands: how many indices the path has, and how many segments; the position after the one worked on; and
 // the lowest index found on a cycle so far.
-#[derive(Drop)]
+#[derive(Clone, Copy)]
 struct Walk {
     len: usize,
     top: usize,

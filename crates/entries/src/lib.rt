@@ -1,5 +1,7 @@
 // Entries, one word each: the lowest that is not above the one before, or that is beyond a limit (refusals 4, 5 and 9, and a
 // star's reads in 6).
+#![tactic(auto)]
+
 ghost use Rattle.std.specs.Prelude.{◌≡◌, ◌≤◌, ◌<◌, min, ◌||◌, length};
 ghost use Rattle.entries.specs.First.{first};
 ghost use Rattle.entries.specs.Entries.{falls, ascend, beyond};

@@ -1,4 +1,6 @@
 // The lent slice and the answer of a request that fills: a refusal, or what stands at the front of the slice.
+#![tactic(auto)]
+
 ghost use Rattle.std.specs.Prelude.{◌≡◌, ◌≤◌, length, take};
 ghost use Rattle.filling.specs.Filling.{refuses, unless_short, filled_of, Fills};
 ghost use Rattle.filling.specs.Inside.Copied.{copied};
@@ -10,13 +12,13 @@ use paper::limits::{MOST_ROWS, SLOTS};
 use paper::refusals::{OUT_TOO_SHORT, refusal_at};
 
 // How many words or bytes a request filled.
-#[derive(Drop)]
+#[derive(Clone, Copy)]
 pub struct Length {
     pub count: usize,
 }
 
 // The answer to a request that fills a lent slice.
-#[derive(Drop)]
+#[derive(Clone, Copy)]
 pub enum Filled {
     Done(Length),
     Refused(Refusal),

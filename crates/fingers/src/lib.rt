@@ -1,6 +1,8 @@
 // Fingers: by them what comes before a chosen label is gone through, as far as it is asked for. A finger points into what
 // the label's own star reads, then into what the stars of the guards around it read, and there into the chosen labels of
 // each variable read.
+#![tactic(auto)]
+
 ghost use Rattle.std.specs.Prelude.{◌≡◌, ◌+◌, ◌*◌, ◌/◌, ◌%◌, ◌<◌, ◌≤◌, length, get_or};
 ghost use Rattle.net.specs.Inside.Prior.{share_branch_in};
 ghost use Rattle.net.specs.Inside.Net.{Chosen, Net};
@@ -16,7 +18,7 @@ use paper::{Label, Variable};
 use rows::{arg_of, from_of};
 
 // A spot that a finger points to: a star (label 0 for none), its next read, and the next index of the read before.
-#[derive(Drop)]
+#[derive(Clone, Copy)]
 pub struct Spot {
     pub star: Label,
     pub read: usize,
@@ -25,7 +27,7 @@ pub struct Spot {
 
 // What is known after a look at an index: whether it calls, that is, is open and shares a branch with the one at hand; and
 // labels, from `from` up to `to`, that share no branch with it.
-#[derive(Drop)]
+#[derive(Clone, Copy)]
 pub struct Seen {
     pub hit: bool,
     pub from: Label,
@@ -33,7 +35,7 @@ pub struct Seen {
 }
 
 // A finger moved on, and the index there, or how many there are where it has run out.
-#[derive(Drop)]
+#[derive(Clone, Copy)]
 pub struct Moved {
     pub finger: u64,
     pub index: usize,

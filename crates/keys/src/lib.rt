@@ -1,4 +1,6 @@
 // The number of distinct keys of a formula, counted by recursion over the rows: refusal 14.
+#![tactic(auto)]
+
 ghost use Rattle.std.specs.Prelude.{◌≡◌, true, false, ◌≤◌, ◌<◌, min};
 ghost use Rattle.rows.specs.Inside.Walk.{Walkable};
 ghost use Rattle.marks.specs.Marks.{is_marked};
@@ -12,7 +14,7 @@ use rows::walk::{expressions_of, first_of};
 use rows::{end_of, kind_of};
 
 // How many distinct keys are not empty, at most 65,536, and whether the empty key is one.
-#[derive(Drop)]
+#[derive(Clone, Copy)]
 pub struct Distinct {
     pub more: u32,
     pub empty: bool,

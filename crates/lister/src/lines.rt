@@ -12,7 +12,7 @@ use paper::limits::{MOST_ROWS, SLOTS};
 use strategy::Accepted;
 
 // How many lines were put, and how many bytes they are.
-#[derive(Drop)]
+#[derive(Clone, Copy)]
 pub struct Lines {
     pub count: usize,
     pub length: usize,

@@ -1,4 +1,6 @@
 // The lister: reads a table on standard input, and prints its listing or one line of a refusal (document 01, "A listing, whole").
+#![tactic(auto)]
+
 mod basis; // what the lines of the transitions are worked out from
 mod lines; // the lines of the transitions, put into a lent buffer
 mod output; // the one call that writes
@@ -19,7 +21,7 @@ use reading::{Read, read_input};
 use writing::write_listing;
 
 // What was read, and how far its listing was written.
-#[derive(Drop)]
+#[derive(Clone, Copy)]
 struct Ran {
     read: Read,
     written: Written,

@@ -7,7 +7,7 @@ ghost use Rattle.lister.specs.Running.{NextPart, HandedOver};
 use libc::STDOUT_FILENO;
 
 // How many bytes of a listing the writing call has taken, and whether it took all that it was given.
-#[derive(Drop)]
+#[derive(Clone, Copy)]
 pub struct Written {
     at: usize,
     whole: bool,

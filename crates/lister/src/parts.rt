@@ -12,7 +12,7 @@ use paper::limits::MOST_ROWS;
 use strategy::{Accepted, Judged};
 
 // The number of the piece that comes next, and how many bytes were put.
-#[derive(Drop)]
+#[derive(Clone, Copy)]
 pub struct Part {
     pub next: usize,
     pub length: usize,

@@ -7,7 +7,7 @@ ghost use Rattle.paper.specs.Limits.{most_bytes};
 use libc::STDIN_FILENO;
 
 // How many bytes were read, and whether a reading call gave no more of them.
-#[derive(Drop)]
+#[derive(Clone, Copy)]
 pub struct Read {
     pub count: usize,
     pub ended: bool,

@@ -1,5 +1,7 @@
 // The lines of a listing (document 01, "A listing, whole"), put into a lent buffer. Each function puts its bytes at a position
 // of the buffer, leaves the rest of the buffer as it was, and answers the position after them.
+#![tactic(auto)]
+
 ghost use Rattle.std.specs.Prelude.{◌≡◌, ◌+◌, ◌*◌, ◌^◌, ◌≤◌, ◌<◌, length, [], ◌∷◌};
 ghost use Rattle.marks.specs.Marks.{positions_from, positions};
 ghost use Rattle.listing.specs.Text.{decimal, field, fields, accepted_line, order_line, transition_line, refused_line};

@@ -1,4 +1,6 @@
 // The chosen labels as marks, a byte for each label, for the walks that count.
+#![tactic(auto)]
+
 ghost use Rattle.std.specs.Prelude.{◌≡◌, ◌<◌, map};
 ghost use Rattle.paper.specs.Formula.{ℓ};
 ghost use Rattle.marks.specs.Marks.{is_marked};

@@ -1,4 +1,6 @@
 // The net: what is kept beside the rows so that "before" can be followed label by label without walking from the root.
+#![tactic(auto)]
+
 ghost use Rattle.std.specs.Prelude.{◌≡◌, ℕ, ◌+◌, ◌*◌, ◌≤◌, ◌<◌, length, get_or, take};
 ghost use Rattle.paper.specs.Formula.{ℓ};
 ghost use Rattle.rows.specs.Rows.{kind_of};

@@ -1,3 +1,5 @@
 // The four requests of document 01 over any words: judge, order, transition k, assignments of transition k.
+#![tactic(auto)]
+
 pub mod requests; // the requests
 pub mod exported; // the same for C, each answer packed in one number

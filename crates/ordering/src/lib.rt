@@ -1,6 +1,8 @@
 // The reported order (document 01, "Reported order"): at each step the lowest index left that no index left is before. The
 // index of a chosen label is its position in the strategy. An index that is found to wait for another keeps it in `wait`, and
 // `low` keeps the lowest that waits for each, from which the next step looks on.
+#![tactic(auto)]
+
 ghost use Rattle.std.specs.Prelude.{◌≡◌, ◌≤◌, ◌<◌, ◌&&◌, ltb, length};
 ghost use Rattle.ordering.specs.Inside.Reported.{OrderFilled};
 ghost use Rattle.fingers.specs.Inside.Followable.{Followable};

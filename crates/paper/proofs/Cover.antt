@@ -83,7 +83,7 @@ module _ (p : Label → Bool) where
 
   over-append : (bs cs : List (List Label)) → over (bs ++ cs) ≡ join_cover false (over bs) (over cs)
   over-append bs cs =
-      covers (any_append _ bs cs) (ap not (any_append lacks bs cs) ∙ not-or (any_of lacks bs) (any_of lacks cs)) (any_append _ bs cs) (any_append _ bs cs)
+      covers (any_append (λ b. true) bs cs) (ap not (any_append lacks bs cs) ∙ not-or (any_of lacks bs) (any_of lacks cs)) (any_append _ bs cs) (any_append _ bs cs)
 
   over-cons : (b : List Label) (bs : List (List Label)) → over (b ∷ bs) ≡ join_cover false (one b) (over bs)
   over-cons b bs = covers refl (not-or (lacks b) (any_of lacks bs)) refl refl

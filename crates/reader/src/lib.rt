@@ -1,6 +1,8 @@
 // A table reader (document 01, "A table reader that holds the lent words and its place"): the lent words and a label, for a
 // browser that shows the rows of any words as a tree. Each function over the struct takes it apart and calls a function on
 // the words and the number; `row_of` and `row_past` take plain parameters, for every other caller.
+#![tactic(auto)]
+
 ghost use Rattle.std.specs.Prelude.{◌≡◌};
 ghost use Rattle.reader.specs.Reading.{row_at, reader_at, reader_past, row_past};
 
@@ -10,7 +12,7 @@ use plain::{past_at, row_at};
 pub mod plain; // the same on a slice and a number
 
 // A row: its label and its four words. Its arg is a word, since it is a variable in a candidate alone.
-#[derive(Drop)]
+#[derive(Clone, Copy)]
 pub struct Row {
     pub label: Label,
     pub kind: u16,
@@ -20,14 +22,14 @@ pub struct Row {
 }
 
 // What stands at a place: a row, or none.
-#[derive(Drop)]
+#[derive(Clone, Copy)]
 pub enum Found {
     Here(Row),
     Absent,
 }
 
 // The lent words and a place, which is a label: "A row's label is its position 0 to N-1."
-#[derive(Drop)]
+#[derive(Clone, Copy)]
 pub struct Reader<'a> {
     pub words: &'a [u16],
     pub at: usize,

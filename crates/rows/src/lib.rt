@@ -1,5 +1,7 @@
 // The rows of a table: their words, and the rules of refusals 6 and 7; below it depth and the walk over expressions. The rows
 // are handed on from the first row's kind word; what follows the last row may be anything.
+#![tactic(auto)]
+
 ghost use Rattle.std.specs.Prelude.{◌≡◌, ◌+◌, ◌*◌, ◌≤◌, ◌<◌, length};
 ghost use Rattle.paper.specs.Formula.{ℓ};
 ghost use Rattle.entries.specs.First.{first};

@@ -1,5 +1,7 @@
 // The sections of a table (document 01, "The formula table"), each handed on as the part of the words from its count word on,
 // and wholly checked before the next: refusals 1, 2, 4, 5, 9 and 3, and 6 to 8 by the rows' own checks.
+#![tactic(auto)]
+
 ghost use Rattle.std.specs.Prelude.{◌≡◌, ◌+◌, ◌*◌, ◌≤◌, ◌<◌, ◌^◌, length};
 ghost use Rattle.sections.specs.Sections.{halt, start, open_at, variables_at, reads_at, rows_at, strategy_at, end_at};
 
@@ -15,7 +17,7 @@ use rows::{first_broken, reads_taken};
 
 // Between two sections: the position of the next count word, how many entries the section before it has, and
 // V, R and N once they are known.
-#[derive(Drop)]
+#[derive(Clone, Copy)]
 pub struct Cursor {
     pub at: usize,
     pub count: usize,
@@ -25,7 +27,7 @@ pub struct Cursor {
 }
 
 // What checking a section gives: the cursor behind it, or the refusal.
-#[derive(Drop)]
+#[derive(Clone, Copy)]
 pub enum Step {
     Next(Cursor),
     Halt(Refusal),

@@ -1,4 +1,6 @@
 // The verdict on a table's words: is the proposal a strategy? Refusals 10 to 14 and what an acceptance counts (document 01).
+#![tactic(auto)]
+
 ghost use Rattle.std.specs.Prelude.{◌≡◌, length};
 ghost use Rattle.strategy.specs.Judge.{judged_of, JudgedInto};
 ghost use Rattle.strategy.specs.Verdict.{refused_at};
@@ -13,14 +15,14 @@ mod checks; // 10 to 14, one after another
 mod choice; // 10
 
 // What is known of an accepted table: its counts and positions, and the number of its transitions.
-#[derive(Drop)]
+#[derive(Clone, Copy)]
 pub struct Accepted {
     pub layout: Layout,
     pub transitions: usize,
 }
 
 // The answer to any words.
-#[derive(Drop)]
+#[derive(Clone, Copy)]
 pub enum Judged {
     Accepted(Accepted),
     Refused(Refusal),

@@ -1,5 +1,7 @@
 // The words of a table (document 01, "The formula table"): its sections, one after another, and where they lie in words that
 // passed.
+#![tactic(auto)]
+
 ghost use Rattle.std.specs.Prelude.{◌≡◌, ◌≤◌};
 ghost use Rattle.table.specs.Table.{sections, as_checked, checked};
 ghost use Rattle.paper.specs.Limits.{most_reads, most_rows, most_variables};
@@ -9,7 +11,7 @@ use sections::{Cursor, Step};
 
 // What sound words hold: the counts V, R, N and S, and the positions of the first read, the first row and the first
 // chosen label. The names begin at word 1.
-#[derive(Drop)]
+#[derive(Clone, Copy)]
 pub struct Layout {
     pub variables: usize,
     pub reads: usize,
@@ -21,7 +23,7 @@ pub struct Layout {
 }
 
 // The answer to any words.
-#[derive(Drop)]
+#[derive(Clone, Copy)]
 pub enum Checked {
     Sound(Layout),
     Refused(Refusal),

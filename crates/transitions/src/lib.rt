@@ -1,9 +1,11 @@
 // The transitions of an accepted table, for a caller that has judged it: what transition k keeps, and its assignments.
+#![tactic(auto)]
+
 pub mod kept; // the labels that a transition keeps
 pub mod assigned; // its chosen labels, in an order
 
 // How the children of a join that are still to come take part in a key.
-#[derive(Drop)]
+#[derive(Clone, Copy)]
 pub enum Shares {
     // all, by quotient and remainder: in key k of so many
     Each(u64, u64),
@@ -16,7 +18,7 @@ pub enum Shares {
 }
 
 // Whether a child takes part and in which of its keys, and how those after it do.
-#[derive(Drop)]
+#[derive(Clone, Copy)]
 pub struct Turn {
     pub on: bool,
     pub key: u64,
