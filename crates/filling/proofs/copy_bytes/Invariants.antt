@@ -1,0 +1,10 @@
+-- The invariant: the entries before i are copied, and the others are as they were.
+use Prim.Native.Nat.{◌-◌}
+use Rattle.filling.proofs.Copies.{Copying}
+use Rattle.filling.proofs.copy_bytes.Given as goal
+
+abbrev pub invariant-loop-i : goal.invariant-loop-i
+invariant-loop-i l = Copying l.from l.n l.initial.out l.out l.i
+
+abbrev pub decreases-loop-i : goal.decreases-loop-i
+decreases-loop-i l = l.n - l.i
