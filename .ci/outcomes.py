@@ -14,12 +14,12 @@ import sys
 # A function without a statement of a kind, and why: (crate, file, statement): reason
 EXCEPTIONS = {}
 
-# What is said, and what a refusal is, by the type of the result.
-SAID = "Rattle·paper.specs.Outcome"
+# What is said, and what a refusal is, by the type of the result. A public function whose result is a u64 answers C, packed.
+SAID = "Rattle.paper.specs.Outcome"
 REFUSAL = {
-    "Filled": "Rattle·filling.specs.Filling.IsRefusal",
-    "Judged": "Rattle·strategy.specs.Verdict.IsRefusal",
-    "u64": "Rattle·nocturenc.specs.Packed.IsPackedRefusal",
+    "Filled": "Rattle.filling.specs.Filling.IsRefusal",
+    "Judged": "Rattle.strategy.specs.Verdict.IsRefusal",
+    "u64": "Rattle.nocturenc.specs.Packed.IsPackedRefusal",
 }
 
 failures = []
@@ -35,12 +35,11 @@ def without(comment, path):
 class Function:
     """A public function: the prover's modules of it, its statements' name, which parameters are lent to be changed, its result."""
 
-    def __init__(self, crate, modules, name, exported, parameters, result):
+    def __init__(self, crate, modules, name, parameters, result):
         whole = modules + [name]
-        self.path = ".".join([f"Rattle·{crate}·proofs.proofs"] + whole)
+        self.path = ".".join([f"Rattle.{crate}.proofs"] + whole)
         self.shown = "::".join([crate] + whole)
         self.statement = "-".join([m.lower() for m in modules if m[0].isupper()] + [name]).replace("_", "-")
-        self.exported = exported
         self.lent = [bool(re.search(r"&\s*('\w+\s+)?mut\b", p)) for p in parameters]
         self.result = result
 
@@ -77,12 +76,12 @@ def public_functions(crate):
         text = without("//", path)
         methods = [(i.group(1), i.end() - 1) for i in re.finditer(r"\bimpl\b[^{;]*?\b([A-Z]\w*)\s*(?:<[^>]*>)?\s*\{", text)]
         methods = [(name, start, closing(text, start)) for name, start in methods]
-        for item in re.finditer(r'\bpub\b\s*(?:\([^)]*\)\s*)?(extern\s*""\s*)?fn\s+(\w+)\s*(?:<[^>]*>)?\s*\(', text):
+        for item in re.finditer(r'\bpub\b\s*(?:\([^)]*\)\s*)?(?:extern\s*""\s*)?fn\s+(\w+)\s*(?:<[^>]*>)?\s*\(', text):
             end = closing(text, item.end() - 1)
             result = re.match(r"\s*->\s*(\S+)", text[end + 1 :])
             owner = [name for name, start, stop in methods if start < item.start() < stop]
             parameters = parts(text[item.end() : end])
-            found.append(Function(crate, modules + owner, item.group(2), bool(item.group(1)), parameters, result and result.group(1)))
+            found.append(Function(crate, modules + owner, item.group(1), parameters, result and result.group(1)))
     return found
 
 
@@ -104,7 +103,7 @@ def brought(path, text):
     for name, whole in pairs:
         if name in names or re.search(rf"^\s*(?:pub |abbrev |unfoldable )*{re.escape(name)} :", text, re.M):
             failures.append(f"{path}: {name} stands for two things")
-        names[name] = whole.replace("·specs.specs", ".specs")
+        names[name] = whole
     return names
 
 
@@ -119,9 +118,9 @@ def statements(crate, file):
     names = brought(path, text)
     found = {}
     for name, said in re.findall(r"^pub (\S+) :(.*(?:\n[ ].*)*)", text, re.M):
-        whole = re.sub(r"(?<![\w.·-])[\w-]+", lambda m: names.get(m.group(0), m.group(0)), " ".join(said.split()))
+        whole = re.sub(r"(?<![\w.-])[\w-]+", lambda m: names.get(m.group(0), m.group(0)), " ".join(said.split()))
         if f"{SAID}." in whole:
-            found[name] = whole
+            found[name.replace("_", "-")] = whole
     return found
 
 
@@ -135,7 +134,7 @@ def refusal_leaves(f):
     """What is left of each value that was lent to be changed is what is there now."""
     lent = "tt"
     for i in reversed(range(len(f.lent))):
-        lent = f"(denote.Ref.now (a{' .1' * i} .0), {lent})" if f.lent[i] else f"(tt, {lent})"
+        lent = f"(a{'.1' * i}.0.now, {lent})" if f.lent[i] else f"(tt, {lent})"
     refusal = REFUSAL.get(f.result, "?")
     kinds = f"{f.path}.Kinds.ps {f.path}.Kinds.r (λ κs. {refusal}) (λ κs a. {lent})"
     return [f"{SAID}.RefusalLeaves {kinds} {f.path}.Reads.Pre {f.path}.Reads.Post"]
@@ -173,7 +172,7 @@ def main():
     number = refusing = owners = 0
     for crate in libraries:
         functions = public_functions(crate)
-        can_refuse = [f for f in functions if any(f.lent) and (f.exported or f.result in enums)]
+        can_refuse = [f for f in functions if any(f.lent) and (f.result in REFUSAL or f.result in enums)]
         compare(crate, "OneOutcome", functions, one_outcome)
         compare(crate, "RefusalLeaves", can_refuse, refusal_leaves)
         number, refusing, owners = number + len(functions), refusing + len(can_refuse), owners + bool(functions)

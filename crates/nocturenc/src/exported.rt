@@ -1,4 +1,5 @@
-// The requests for C: the words, the lent slice and the number k come in, and each answer goes out packed in one number.
+// The requests as C asks them: the words, the lent slice and the number k come in, and each answer goes out packed in one number.
+// Crate nocturenc_c exports them.
 ghost use Rattle.std.specs.Prelude.{◌≡◌, length};
 ghost use Rattle.answers.specs.Requests.{judge_of, order_of, transition_of, assignments_of};
 ghost use Rattle.answers.specs.Inside.Judged.{FitCounts, FitFilled};
@@ -40,8 +41,7 @@ fn packed_filled(f: Filled) -> u64
 }
 
 // Judges a table.
-#[unsafe(no_mangle)]
-pub extern "C" fn nocturenc_judge(words: &[u16]) -> u64
+pub fn nocturenc_judge(words: &[u16]) -> u64
     ensures { AnswerPacked (judge_of words.now) result }
 {
     let answer = judge(words);
@@ -52,24 +52,21 @@ pub extern "C" fn nocturenc_judge(words: &[u16]) -> u64
 }
 
 // Fills `out` with the reported order.
-#[unsafe(no_mangle)]
-pub extern "C" fn nocturenc_order(words: &[u16], out: &mut [u16]) -> u64
+pub fn nocturenc_order(words: &[u16], out: &mut [u16]) -> u64
     ensures { FillsPacked (order_of words.now (length out.old)) out.old out.new result }
 {
     packed_filled(order(words, out))
 }
 
 // Fills `out` with a byte for each label: 1 if transition k keeps it, else 0.
-#[unsafe(no_mangle)]
-pub extern "C" fn nocturenc_transition(words: &[u16], k: usize, out: &mut [u8]) -> u64
+pub fn nocturenc_transition(words: &[u16], k: usize, out: &mut [u8]) -> u64
     ensures { FillsPacked (transition_of words.now k (length out.old)) out.old out.new result }
 {
     packed_filled(transition(words, k, out))
 }
 
 // Fills `out` with the chosen labels of transition k, in reported order.
-#[unsafe(no_mangle)]
-pub extern "C" fn nocturenc_assignments(words: &[u16], k: usize, out: &mut [u16]) -> u64
+pub fn nocturenc_assignments(words: &[u16], k: usize, out: &mut [u16]) -> u64
     ensures { FillsPacked (assignments_of words.now k (length out.old)) out.old out.new result }
 {
     packed_filled(assignments(words, k, out))

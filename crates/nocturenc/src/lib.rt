@@ -2,4 +2,4 @@
 #![tactic(auto)]
 
 pub mod requests; // the requests
-pub mod exported; // the same for C, each answer packed in one number
+pub mod exported; // the same as C asks them, each answer packed in one number
