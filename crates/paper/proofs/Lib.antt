@@ -9,6 +9,7 @@ pub mod Distinct
 pub mod Variables
 pub mod BoolForm
 pub mod Frozen
+pub mod StaysTrue
 pub mod Truth
 pub mod Cycle
 pub mod Order

@@ -1,0 +1,34 @@
+-- The row over a row: on the way up from the row before it no row passed is over it, and the first row of all is.
+use native.Mathlib.Omega.{arith}
+use mathlib.Core.Path.{sym, ap}
+use Rattle.paper.specs.Formula.{ℓ}
+use Rattle.rows.proofs.Rules.{number_of}
+use Rattle.net.proofs.Climb.{Parent, reached-next, parent_is, parent-noted}
+use Rattle.net.proofs.climbed.Goals.{After-parent_of-top}
+use Rattle.net.proofs.climbed.Goals as goal
+
+-- the next row on the way is right over this one
+
+module _ (c : After-parent_of-top) where
+  up : let l = c in
+      Parent l.args.rows.now l.loop-at.top.0 c.parent_of-top.result.0
+  up =
+      let l = c in
+      let s = l in
+      let p = s.requires in
+      let e = number_of c.end_of.ensures in
+      parent-noted _ _ _ _ _ s.args.net.now p.0 p.2 p.3 l.loop-at.invariant (omega arith) (number_of c.parent_of-top.ensures)
+
+pub loop-at-smaller : goal.loop-at-smaller
+loop-at-smaller c = (up (goal.at.loop-at-smaller c).After-parent_of-top).reached.below
+
+pub loop-at-preserved : goal.loop-at-preserved
+loop-at-preserved c =
+    let e = c in
+    let z = number_of e.end_of.ensures in
+    reached-next _ e.loop-at.invariant (omega arith) (up (goal.at.loop-at-preserved c).After-parent_of-top)
+
+pub returns : goal.returns
+returns c =
+    let e = number_of c.end_of.ensures in
+    ap ℓ (sym (parent_is _ _ _ record { reached = c.loop-at.invariant; over = omega arith }))
