@@ -24,13 +24,12 @@ loop-i-preserved c =
     let inv = c.loop-i.invariant in
     let more : c.loop-i.taken + c.taken_by-taken.result ≡ taken_before c.args.rows.now (c.loop-i.i + 1) = taken_more _ _ _ _ inv.1 c.taken_by-taken.ensures in
     let keeps = sym c.keeps_rules.ensures ∙ c.if-not-keeps_rules.false in
-    let there : c.loop-i.taken + c.taken_by-taken.result ≤ length c.args.reads.now = rw more (takes-there _ _ _ _ _ keeps (rw inv.1 at inv.2)) in
-    (
-  omega arith,
-  more,
-  there,
-  below_more _ _ inv.3 (ap not keeps),
-)
+    let there : c.loop-i.taken + c.taken_by-taken.result ≤ length c.args.reads.now = rw more (takes-there _ _ _ _ _ keeps (rw inv.1 at inv.2)) in (
+      omega arith,
+      more,
+      there,
+      below_more _ _ inv.3 (ap not keeps),
+    )
 
 pub returns : goal.returns
 returns c = sym (first-none _ _ (λ j h. c.loop-i.invariant.3 j (omega arith)))

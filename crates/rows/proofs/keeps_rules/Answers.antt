@@ -30,14 +30,14 @@ module _ (c : Else-wide-taken) where
       → keeps_rules c.args.rows.now c.args.reads.now c.args.variables c.args.n c.args.at.0
       ≡ keeps_form c.args.rows.now c.args.reads.now c.args.variables c.args.at.0 (form_of k)
   kind-decides k e =
-      by_kind _ _ _ _ _ k ends-well (sym c.from_of.ensures ∙ sym c.wide.ensures ∙ c.if-wide-taken.false ∙ c.requires.1) e
+      by_kind _ _ _ _ _ k ends-well (omega arith) e
 
 pub returns-then-not-ends_within : goal.returns-then-not-ends_within
 returns-then-not-ends_within c = sym (ends-badly _ _ _ _ _ (sym (tested _ _ c.ends_within.ensures c.end_of.ensures) ∙ c.if-not-ends_within.true))
 
 pub returns-then-wide-taken : goal.returns-then-wide-taken
 returns-then-wide-taken c =
-    sym (from-elsewhere _ _ _ _ _ (λ e. c.if-wide-taken.true (c.wide.ensures ∙ c.from_of.ensures ∙ e ∙ sym c.requires.1)))
+    sym (from-elsewhere _ _ _ _ _ (λ e. omega arith))
 
 pub keeps_candidate-requires : goal.keeps_candidate-requires
 keeps_candidate-requires c = let e = within (goal.at.keeps_candidate-requires c).Else-wide-taken in search rules
@@ -86,5 +86,5 @@ pub returns-in-7-to-65535 : goal.returns-in-7-to-65535
 returns-in-7-to-65535 c =
     let k = c.kind_of-kind.result in
     let none : form_of k ≡ no_form = no-form k (λ e. omega arith) (λ e. omega arith) (λ e. omega arith) (λ e. omega arith)
-        (λ e. omega arith) (λ e. omega arith) (λ e. omega arith) in
+    (λ e. omega arith) (λ e. omega arith) (λ e. omega arith) in
     sym (kind-decides (goal.at.returns-in-7-to-65535 c).Else-wide-taken k (sym c.kind_of-kind.ensures) ∙ ap (keeps_form _ _ _ _) none)

@@ -79,4 +79,3 @@ returns t c =
     let s = c in
     let end = number c.end_of-end.ensures in
     end ∙ all-passed s.args.rows.now (omega (arith, end, c.loop-k-test.false)) (c.loop-k.invariant s.args.at.0 refl)
-
