@@ -1,0 +1,53 @@
+-- The loop's invariant: j lies from the first read of the star on exactly if it is before itself. The measure is the star.
+use native.Mathlib.Omega.{arith}
+use mathlib.Core.Path.{sym, ap, ◌∙◌}
+use Rattle.paper.specs.declared.Label.{Label}
+use Rattle.cycles.proofs.Itself.{below_none, below-read, outer-spot, outer-lower, below-outer, own-spot, below-own}
+use Rattle.cycles.proofs.is_before_itself.Goals as goal
+
+pub loop-star-init : goal.loop-star-init
+loop-star-init c =
+    let a = c.requires in
+    (own-spot _ _ _ _ _ _ a.0 a.1, below-own _ _ _ _ _ _ a.0 a.1)
+
+pub returns-then-is_read : goal.returns-then-is_read
+returns-then-is_read c =
+    let loop = c.loop-star in
+    let wide = c.wide in
+    let from-of = c.from_of in
+    let stop-of = c.stop_of in
+    let arg-of = c.arg_of in
+    let entry = c in
+    let if1 = c.loop-star-test in
+    let v = loop.invariant in
+    let e = rw (wide.ensures ∙ from-of.ensures, stop-of.ensures, arg-of.ensures) at c.is_read.ensures in
+    sym (sym v.1 ∙ below-read _ _ _ _ _ _ entry.requires.0 _ v.0 if1.true (sym e ∙ c.if-is_read.true))
+
+pub loop-star-smaller : goal.loop-star-smaller
+loop-star-smaller c =
+    let loop = c.loop-star in
+    let entry = c in
+    let if1 = c.loop-star-test in
+    let P = loop.invariant.0 in
+    let g = ap (λ (l : Label). l.0) c.guard_of-star.ensures in
+    omega (arith, outer-lower _ _ _ _ _ entry.requires.0 _ P if1.true)
+
+pub loop-star-preserved : goal.loop-star-preserved
+loop-star-preserved c =
+    let entry = c in
+    let loop = c.loop-star in
+    let if1 = c.loop-star-test in
+    let wide = c.wide in
+    let from-of = c.from_of in
+    let stop-of = c.stop_of in
+    let arg-of = c.arg_of in
+    let is_read = c.is_read in
+    let a = entry.requires in
+    let v = loop.invariant in
+    let t = if1.true in
+    let g = ap (λ (l : Label). l.0) c.guard_of-star.ensures in
+    let e = rw (wide.ensures ∙ from-of.ensures, stop-of.ensures, arg-of.ensures) at is_read.ensures in
+    (rw g (outer-spot _ _ _ _ _ a.0 _ v.0 t), rw g (below-outer _ _ _ _ _ _ a.0 _ v.0 t (sym e ∙ c.if-is_read.false) a.1 ∙ v.1))
+
+pub returns : goal.returns
+returns c = sym (sym c.loop-star.invariant.1 ∙ below_none _ _ _ _ _ c.loop-star-test.false)
