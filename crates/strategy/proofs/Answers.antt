@@ -13,7 +13,7 @@ use Rattle.paper.specs.declared.Refusal.{Refusal}
 use Rattle.paper.specs.Limits.{most_transitions, most_depth, slots}
 use Rattle.paper.specs.declared.Variable.{Variable}
 use Rattle.paper.specs.Transition.{keys}
-use Rattle.paper.specs.Judgement.{Judgement, accepted, refused, variables}
+use Rattle.paper.specs.Judgement.{Judgement, accepted, refused}
 use Rattle.paper.specs.Judgement.{judge_count, judge_order, judge}
 use Rattle.paper.proofs.Numbers.{numbers-say}
 use Rattle.table.specs.declared.Layout.{Layout}
