@@ -159,7 +159,8 @@ module _ (words : List ℕ) where
       let rows = drop (#V + #R + 3) words in
       let reads = take #R (drop (#V + 2) words) in
       let es : drop 1 p ≡ rows = entries_at words (#V + #R + 2) (#V + #R + 3) (omega arith) in
-      let h = held p (after_reads #V #R) 1 most_rows 4 row_broken 0 (λ n. breaks_rules rows reads #V n) (rowed_if rows #R) c (simp (q, reads_before, es) at e) in
+      let h = held p (after_reads #V #R) 1 most_rows 4 row_broken 0 (λ n. breaks_rules rows reads #V n) (rowed_if rows #R) c
+      (simp (q, reads_before, es) at e) in
       let w = rowed-of rows #R (behind (after_reads #V #R) 4 h.n) c h.went in
       let there = length-take-le #R (drop (#V + 2) words) (omega (arith, length-drop (#V + #R + 2) words, length-drop (#V + 2) words)) in
       record {
