@@ -10,7 +10,6 @@ use mathlib.Core.Bool.{Bool, true, false, not, cond, ◌&&◌}
 use mathlib.Core.Logic.{◌↔◌}
 use mathlib.Core.List.{List, [], ◌∷◌, ◌++◌, map, Memᴰ}
 use lib.Dec.{eqb}
-use lib.Bits.{bit_and, bit_or}
 use borrow.Author.Count.{below_more}
 use borrow.Author.Tests.{eq-eqb, ne_eqb, eqb-true, eqb-false, lt-ltb, le-ltb, not-true}
 use Rattle.paper.specs.Limits.{most_rows}
@@ -20,7 +19,7 @@ use Rattle.paper.specs.Lists.{those}
 use Rattle.paper.specs.Formula.{𝓋, has, alike, labels, WellFormed, Formula}
 use Rattle.paper.specs.Judgement.{Judgement, refuse, variables, missed, doubled}
 use Rattle.paper.specs.Inside.Structure.Fold.{fold_of}
-use Rattle.paper.specs.Inside.Structure.Cover.{Cover, cover, leaf_cover, unit_cover, both_cover, join_cover, cover_fold, cover_of}
+use Rattle.paper.specs.Inside.Structure.Cover.{leaf_cover, unit_cover, join_cover, cover_fold, cover_of}
 use Rattle.paper.proofs.Bools.{same_answer}
 use Rattle.paper.proofs.Lists.{those-append, to-those, of-those}
 use Rattle.paper.proofs.Variables.{to-variables}
@@ -34,17 +33,11 @@ use Rattle.cover.specs.declared.Masks.{Masks}
 use Rattle.cover.specs.declared.Covering.TheVariants.{Missed, Doubled, Covered}
 use Rattle.marks.specs.Marks.{is_marked}
 use Rattle.marks.specs.Inside.Chosen.{Marked}
-use Rattle.cover.specs.Inside.Masks.{leaf_masks, unit_masks, both_masks, join_masks, mask_of, masks_fold, masks_at}
+use Rattle.cover.specs.Inside.Masks.{leaf_masks, unit_masks, join_masks, mask_of, masks_fold, masks_at}
 use Rattle.cover.specs.Inside.Masks.{bit_at, is_missed, is_doubled, lowest_of, covering_of, covering_by, judgement_of}
 use Rattle.cover.proofs.Leaves.{leaves-labelled}
+use Rattle.cover.proofs.BothBits.{cover_at, covers, both_bits}
 use Rattle.cover.proofs.Bits.{and-bit, or-bit, zero_bit, all-bit, power-bit}
-
--- bit b of each word, as the cover of one variable
-abbrev pub cover_at : ℕ → Masks → Cover
-cover_at b w = cover w.live (bit_at w.always b) (bit_at w.ever b) (bit_at w.twice b)
-
-covers : {l a b e f t u : Bool} → a ≡ b → e ≡ f → t ≡ u → cover l a e t ≡ cover l b f u
-covers p q r = cc
 
 module _ (b : ℕ) (h : b < 64) where
   at_leaf : (mask : ℕ) {chosen : Bool} → bit_at mask b ≡ chosen → cover_at b (leaf_masks mask) ≡ leaf_cover chosen
@@ -55,16 +48,9 @@ module _ (b : ℕ) (h : b < 64) where
   at_unit true = covers (zero_bit b) (zero_bit b) (zero_bit b)
   at_unit false = covers (all-bit b h) (zero_bit b) (zero_bit b)
 
-  at_both : (l m : Bool) (x y : Masks) → cover_at b (both_masks l m x y) ≡ both_cover l m (cover_at b x) (cover_at b y)
-  at_both true true x y =
-      covers (or-bit x.always y.always b) (or-bit x.ever y.ever b)
-      (or-bit (bit_or x.twice y.twice) (bit_and x.ever y.ever) b ∙ cc (or-bit x.twice y.twice b, and-bit x.ever y.ever b))
-  at_both true false x y = refl
-  at_both false m x y = refl
-
   at_join : (c : Bool) (x y : Masks) → cover_at b (join_masks c x y) ≡ join_cover c (cover_at b x) (cover_at b y)
   unfolding join_masks
-  at_join true x y = at_both x.live y.live x y
+  at_join true x y = both_bits b x.live y.live x y
   at_join false x y = covers (and-bit x.always y.always b) (or-bit x.ever y.ever b) (or-bit x.twice y.twice b)
 
   -- bit b of a candidate's mask: it is marked, and its variable is 64 * block + b

@@ -1,5 +1,6 @@
 pub mod Leaves
 pub mod Bits
+pub mod BothBits
 pub mod Blocks
 pub mod CoveringSays
 pub mod CoveringExample

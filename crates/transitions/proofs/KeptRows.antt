@@ -1,7 +1,7 @@
 -- What key k of the formula at a row keeps, row by row: a leaf keeps itself, and a join keeps what the expressions under it keep
 -- in their turns. The paper's quotient, remainder and offset are those of the turns, for a number of keys within the limit is
 -- counted as it is.
-use Prim.Native.Nat.{ℕ, zero, suc, ◌+◌, ◌-◌, ◌*◌, ◌/◌, ◌%◌, ◌<◌, ◌≤◌}
+use Prim.Native.Nat.{ℕ, zero, suc, ◌-◌, ◌*◌, ◌/◌, ◌%◌, ◌<◌, ◌≤◌}
 use native.Mathlib.Omega.{arith}
 use native.Mathlib.Numerals.{sub-one}
 use native.Mathlib.Nat.{mul-one, div-one}
@@ -24,7 +24,8 @@ use Rattle.keys.specs.declared.Distinct.{Distinct}
 use Rattle.marks.specs.Inside.Chosen.{Marked}
 use Rattle.keys.specs.Inside.Keys.{total, keys_at}
 use Rattle.keys.proofs.KeyNumbers.{keys-number, keys-empty}
-use Rattle.keys.proofs.KeysUnder.{product_of, AllWithin, within_more, factors-within, numbers_from, totals_from, keys-multiply, keys-add, keys-within, keys-pass}
+use Rattle.keys.proofs.KeysUnder.{product_of, AllWithin, within_more, factors-within, numbers_from, totals_from}
+use Rattle.keys.proofs.KeysUnder.{keys-multiply, keys-add, keys-within, keys-pass}
 use Rattle.transitions.specs.declared.Shares.{Shares}
 use Rattle.transitions.specs.declared.Shares.TheVariants.{Each, All, One, Done}
 use Rattle.transitions.specs.declared.Turn.{Turn}

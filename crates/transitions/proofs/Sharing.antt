@@ -1,6 +1,6 @@
 -- How the children of a join take part in a key, by their numbers of keys alone: what holds of the numbers still to come, that a
 -- turn keeps it, and that a child that takes part does so in one of its own keys.
-use Prim.Native.Nat.{ℕ, ◌-◌, ◌*◌, ◌/◌, ◌<◌, ◌≤◌}
+use Prim.Native.Nat.{ℕ, ◌*◌, ◌/◌, ◌<◌, ◌≤◌}
 use native.Mathlib.Omega.{arith}
 use native.Mathlib.Nat.{mul-le-mul_left, mul-le-mul_right, mod-lt, div-eq_of_eq-mul_right, div-lt_iff_lt-mul}
 use mathlib.Core.Path.{◌≡◌, refl}
