@@ -29,7 +29,8 @@ prior-itself rows reads chosen j =
 -- the star around a star: a spot, before all that it reads
 module _ (rows reads chosen net : List ℕ) (#N : ℕ) (ready : Followable rows reads chosen net #N) (s : ℕ)
     (P : IsSpot rows chosen #N s (from_of rows s) (length chosen)) (h : 0 < s) where
-  outer : After rows reads chosen #N s (stop_of rows s) (length chosen) (get_or net (guards_from + s) 0) (from_of rows (get_or net (guards_from + s) 0)) (length chosen)
+  outer : After rows reads chosen #N s (stop_of rows s) (length chosen)
+      (get_or net (guards_from + s) 0) (from_of rows (get_or net (guards_from + s) 0)) (length chosen)
   outer = after-star rows reads chosen net #N ready s (stop_of rows s) (length chosen)
       (record { star = P.star; kind = P.kind; read = λ _. let z = stop in omega (arith, ready.few); index = omega arith }) h (omega arith) (omega arith)
     where

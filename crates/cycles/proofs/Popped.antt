@@ -111,7 +111,8 @@ module _ (g : Graph) (mark stack bound finger : List ℕ) (len top at : ℕ) (P 
   apart p q hp hq d e = let a = (P.on p hp).1 in let b = (P.on q hq).1 in d (omega (arith, ap (λ (z : ℕ). get_or mark z 0) e))
 
   cyclic-with : (p q : ℕ) → p < len → base bound top ≤ p → q < len → base bound top ≤ q → (p ≡ q → ⊥) → is_cyclic g (get_or stack p 0) ≡ true
-  cyclic-with p q hp lp hq lq d = cyclic-of g (get_or stack p 0) (get_or stack q 0) (P.on q hq).0 (apart p q hp hq d) (across q p hq hp lp) (across p q hp hq lq)
+  cyclic-with p q hp lp hq lq d =
+      cyclic-of g (get_or stack p 0) (get_or stack q 0) (P.on q hq).0 (apart p q hp hq d) (across q p hq hp lp) (across p q hp hq lq)
     where
       across : (p q : ℕ) → p < len → q < len → base bound top ≤ q → Trail g (get_or stack q 0) (get_or stack p 0)
       across p q hp hq lq = P.reach p q hp hq (λ k hk _. let u = under_top g mark stack bound finger len top at P k hk in omega arith)

@@ -126,7 +126,8 @@ module _ (g : Graph) (mark stack bound finger : List ℕ) (len top at : ℕ) (P 
     }
 
     -- an index f of a lower segment is before it: the segments join
-    pub merge : (f t : ℕ) → f < g.size → g.before f j ≡ true → 2 ≤ get_or mark f 0 → get_or mark f 0 < base bound top + 2 → Merged bound top (get_or mark f 0 - 2) t
+    pub merge : (f t : ℕ) → f < g.size → g.before f j ≡ true → 2 ≤ get_or mark f 0 → get_or mark f 0 < base bound top + 2
+        → Merged bound top (get_or mark f 0 - 2) t
         → (t < top) × Walked g mark stack bound finger len t at
     merge f t hf r two under w = (
       fewer,
@@ -237,7 +238,8 @@ module _ (g : Graph) (mark stack bound finger : List ℕ) (len top at : ℕ) (P 
       fresh = λ i hi. at_set mark f (len + 2) f-long (λ z. z ≡ 0 → (y : ℕ) → y < g.size → g.passed i (get_or finger i 0) y ≡ true → g.before y i ≡ false) i
           (λ q e. absurd (omega arith)) (λ q e. P.fresh i hi e);
       passed = λ p hp. at_set stack len f s-long
-          (λ z. (i : ℕ) → i < g.size → g.passed z (get_or finger z 0) i ≡ true → g.before i z ≡ true → (get_or mark' i 0 ≡ 1 → ⊥) → Beyond p (get_or mark' i 0)) p
+          (λ z. (i : ℕ) → i < g.size → g.passed z (get_or finger z 0) i ≡ true → g.before i z ≡ true → (get_or mark' i 0 ≡ 1 → ⊥)
+              → Beyond p (get_or mark' i 0)) p
           (λ q i hi t e. never (g.before i f) e (P.fresh f hf new i hi t))
           (λ q i hi t e. at_set mark f (len + 2) f-long (λ z. (z ≡ 1 → ⊥) → Beyond p z) i
           (λ same _. absurd (let m : get_or mark i 0 ≡ 0 = ap (λ z. get_or mark z 0) same ∙ new in

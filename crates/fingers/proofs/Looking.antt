@@ -26,7 +26,8 @@ module _ (rows chosen : List ℕ) (j : ℕ) where
   }
 
   module _ (o : ℕ → Bool) (k from to : ℕ) where
-    pub look-open : (hit : Bool) → k < length chosen → o k ≡ true → Looked rows chosen (share_branch_in rows (get_or chosen k 0) (get_or chosen j 0)) j from to hit
+    pub look-open : (hit : Bool) → k < length chosen → o k ≡ true
+        → Looked rows chosen (share_branch_in rows (get_or chosen k 0) (get_or chosen j 0)) j from to hit
         → Looked rows chosen (calls rows chosen o k j) j from to hit
     unfolding calls
     look-open hit h e w = record { says = rw (lt-ltb k (length chosen) h, e) w.says; apart = w.apart }

@@ -114,7 +114,8 @@ module _ (rows chosen : List ℕ) where
         firsts = λ u h. word_of once (length-set net (nexts_from + k) _ ∙ l.parents.size) (λ w. first_word w _) u h (eqb v u) refl;
       }
         where
-          word_of : (once : List ℕ) → length once ≡ net_length → ((u : ℕ) → u < most_variables → get_or once (firsts_from + u) 0 ≡ first_with rows chosen u (k + 1))
+          word_of : (once : List ℕ) → length once ≡ net_length
+              → ((u : ℕ) → u < most_variables → get_or once (firsts_from + u) 0 ≡ first_with rows chosen u (k + 1))
               → (u : ℕ) → u < most_variables → (t : Bool) → eqb v u ≡ t → get_or (set once (firsts_from + v) k) (firsts_from + u) 0 ≡ first_with rows chosen u k
           word_of once size word u h true q =
               let e = eqb-true v u q in

@@ -41,7 +41,8 @@ module _ {X Y : Type 0} (h : X → Y) (R like_y : Y → Y → Bool) (Q like_x : 
       others : (j : X) → In j → those (λ i. not (like_y i (h j))) (map h left) ≡ map h (those (λ i. not (like_x i j)) left)
       others j k = those-map h _ left ∙ ap (map h) (those-same _ _ left (λ i t. ap not (told-apart i j (all i t) k)))
 
-      go : (rs : List X) → those (is_ready Q left) left ≡ rs → ((left : List X) → All left → greedy_by R like_y n (map h left) ≡ map h (greedy_by Q like_x n left))
+      go : (rs : List X) → those (is_ready Q left) left ≡ rs
+          → ((left : List X) → All left → greedy_by R like_y n (map h left) ≡ map h (greedy_by Q like_x n left))
           → next (map h rs) ≡ map h (elim rs [ [] ↦ [] | j ∷ js ↦ j ∷ greedy_by Q like_x n (those (λ i. not (like_x i j)) left) ])
       go [] e more = refl
       go (j ∷ js) e more =

@@ -12,41 +12,23 @@ loop-star-init c =
 
 pub returns-then-is_read : goal.returns-then-is_read
 returns-then-is_read c =
-    let loop = c.loop-star in
-    let wide = c.wide in
-    let from-of = c.from_of in
-    let stop-of = c.stop_of in
-    let arg-of = c.arg_of in
-    let entry = c in
-    let if1 = c.loop-star-test in
-    let v = loop.invariant in
-    let e = rw (wide.ensures ∙ from-of.ensures, stop-of.ensures, arg-of.ensures) at c.is_read.ensures in
-    sym (sym v.1 ∙ below-read _ _ _ _ _ _ entry.requires.0 _ v.0 if1.true (sym e ∙ c.if-is_read.true))
+    let v = c.loop-star.invariant in
+    let e = rw (c.wide.ensures ∙ c.from_of.ensures, c.stop_of.ensures, c.arg_of.ensures) at c.is_read.ensures in
+    sym (sym v.1 ∙ below-read _ _ _ _ _ _ c.requires.0 _ v.0 c.loop-star-test.true (sym e ∙ c.if-is_read.true))
 
 pub loop-star-smaller : goal.loop-star-smaller
 loop-star-smaller c =
-    let loop = c.loop-star in
-    let entry = c in
-    let if1 = c.loop-star-test in
-    let P = loop.invariant.0 in
+    let P = c.loop-star.invariant.0 in
     let g = ap (λ (l : Label). l.0) c.guard_of-star.ensures in
-    omega (arith, outer-lower _ _ _ _ _ entry.requires.0 _ P if1.true)
+    omega (arith, outer-lower _ _ _ _ _ c.requires.0 _ P c.loop-star-test.true)
 
 pub loop-star-preserved : goal.loop-star-preserved
 loop-star-preserved c =
-    let entry = c in
-    let loop = c.loop-star in
-    let if1 = c.loop-star-test in
-    let wide = c.wide in
-    let from-of = c.from_of in
-    let stop-of = c.stop_of in
-    let arg-of = c.arg_of in
-    let is_read = c.is_read in
-    let a = entry.requires in
-    let v = loop.invariant in
-    let t = if1.true in
+    let a = c.requires in
+    let v = c.loop-star.invariant in
+    let t = c.loop-star-test.true in
     let g = ap (λ (l : Label). l.0) c.guard_of-star.ensures in
-    let e = rw (wide.ensures ∙ from-of.ensures, stop-of.ensures, arg-of.ensures) at is_read.ensures in
+    let e = rw (c.wide.ensures ∙ c.from_of.ensures, c.stop_of.ensures, c.arg_of.ensures) at c.is_read.ensures in
     (rw g (outer-spot _ _ _ _ _ a.0 _ v.0 t), rw g (below-outer _ _ _ _ _ _ a.0 _ v.0 t (sym e ∙ c.if-is_read.false) a.1 ∙ v.1))
 
 pub returns : goal.returns

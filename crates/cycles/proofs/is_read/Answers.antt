@@ -5,17 +5,11 @@ use Rattle.cycles.proofs.is_read.Goals as goal
 
 pub returns-then-reads-r : goal.returns-then-reads-r
 returns-then-reads-r c =
-    let loop = c.loop-r in
-    let loop-test = c.loop-r-test in
-    let entry = c in
-    sym (sym loop.invariant ∙ reads-hit _ _ _ _ loop-test.true entry.requires c.if-reads-r.true)
+    sym (sym c.loop-r.invariant ∙ reads-hit _ _ _ _ c.loop-r-test.true c.requires c.if-reads-r.true)
 
 pub loop-r-preserved : goal.loop-r-preserved
 loop-r-preserved c =
-    let loop-test = c.loop-r-test in
-    let entry = c in
-    let loop = c.loop-r in
-    reads-miss _ _ _ _ loop-test.true entry.requires c.if-reads-r.false ∙ loop.invariant
+    reads-miss _ _ _ _ c.loop-r-test.true c.requires c.if-reads-r.false ∙ c.loop-r.invariant
 
 pub returns : goal.returns
 returns c = sym (sym c.loop-r.invariant ∙ reads_none _ _ _ _ c.loop-r-test.false)

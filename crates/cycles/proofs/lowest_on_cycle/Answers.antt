@@ -10,8 +10,7 @@ use Rattle.cycles.proofs.lowest_on_cycle.Goals as goal
 
 pub loop-root-init : goal.loop-root-init
 loop-root-init c =
-    let entry = c in
-    let R = entry.requires in
+    let R = c.requires in
     let s = R.choice.few in (
       omega arith,
       empty-first _ _ (omega arith) (started _ _ _ _ _ _ _ R c.start.ensures),

@@ -10,7 +10,8 @@ use Rattle.cycles.proofs.lowest_on_cycle.Given as goal
 
 abbrev pub invariant-loop-root : goal.invariant-loop-root
 invariant-loop-root l =
-    (l.root ≤ length l.chosen) × Walked (graph_of l.rows l.reads l.chosen l.n) l.mark l.stack l.bound l.finger 0 0 0 × Best (graph_of l.rows l.reads l.chosen l.n) l.mark l.best
+    (l.root ≤ length l.chosen) × Walked (graph_of l.rows l.reads l.chosen l.n) l.mark l.stack l.bound l.finger 0 0 0
+    × Best (graph_of l.rows l.reads l.chosen l.n) l.mark l.best
     × ((i : ℕ) → i < l.root → free l.mark i ≡ false)
 
 abbrev pub decreases-loop-root : goal.decreases-loop-root

@@ -5,9 +5,7 @@ use Rattle.fingers.proofs.look.Goals as goal
 
 pub returns-then-is_outside : goal.returns-then-is_outside
 returns-then-is_outside c =
-    let if1 = c.if-k-chosen in
-    let is-outside = c.is_outside in
-    look-open _ _ _ _ _ _ _ _ if1.true (sym is-outside.ensures ∙ c.if-is_outside.true) c.look_at.ensures
+    look-open _ _ _ _ _ _ _ _ c.if-k-chosen.true (sym c.is_outside.ensures ∙ c.if-is_outside.true) c.look_at.ensures
 
 pub returns-else-is_outside : goal.returns-else-is_outside
 returns-else-is_outside c = look-shut _ _ _ _ _ _ _ (sym c.is_outside.ensures ∙ c.if-is_outside.false) c.requires.4

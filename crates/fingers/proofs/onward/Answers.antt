@@ -14,36 +14,24 @@ returns-then-next-chosen c =
 
 pub returns-then-read-stop_of : goal.returns-then-read-stop_of
 returns-then-read-stop_of c =
-    let entry = c in
-    let if1 = c.if-next-chosen in
-    let if2 = c.if-read-stop_of in
-    let stop-of = c.stop_of in
-    let R = entry.requires.0 in
-    let P = entry.requires.1 in
-    let h = entry.requires.2 in
-    rw c.first_with.ensures (after_read _ _ _ _ _ R _ _ _ P h if1.false (omega (arith, if2.true, stop-of.ensures)))
+    let R = c.requires.0 in
+    let P = c.requires.1 in
+    let h = c.requires.2 in
+    rw c.first_with.ensures (after_read _ _ _ _ _ R _ _ _ P h c.if-next-chosen.false (omega (arith, c.if-read-stop_of.true, c.stop_of.ensures)))
 
 pub from_of-requires : goal.from_of-requires
 from_of-requires c =
-    let entry = c in
-    let if1 = c.if-next-chosen in
-    let stop-of = c.stop_of in
-    let R = entry.requires.0 in
-    let P = entry.requires.1 in
-    let h = entry.requires.2 in
-    let z = (after-star _ _ _ _ _ R _ _ _ P h if1.false (omega (arith, c.if-read-stop_of.false, stop-of.ensures))).spot.star in
+    let R = c.requires.0 in
+    let P = c.requires.1 in
+    let h = c.requires.2 in
+    let z = (after-star _ _ _ _ _ R _ _ _ P h c.if-next-chosen.false (omega (arith, c.if-read-stop_of.false, c.stop_of.ensures))).spot.star in
     omega (arith, ap (λ (l : Label). l.0) c.guard_of-guard.ensures, R.choice.tree.nested.room)
 
 pub returns : goal.returns
 returns c =
-    let entry = c in
-    let guard-of = c.guard_of-guard in
-    let if1 = c.if-next-chosen in
-    let if2 = c.if-read-stop_of in
-    let stop-of = c.stop_of in
-    let R = entry.requires.0 in
-    let P = entry.requires.1 in
-    let h = entry.requires.2 in
+    let R = c.requires.0 in
+    let P = c.requires.1 in
+    let h = c.requires.2 in
     let w = c.wide.ensures ∙ c.from_of.ensures in
-    let g = ap (λ (l : Label). l.0) guard-of.ensures in
-    rw (w, g) (after-star _ _ _ _ _ R _ _ _ P h if1.false (omega (arith, if2.false, stop-of.ensures)))
+    let g = ap (λ (l : Label). l.0) c.guard_of-guard.ensures in
+    rw (w, g) (after-star _ _ _ _ _ R _ _ _ P h c.if-next-chosen.false (omega (arith, c.if-read-stop_of.false, c.stop_of.ensures)))

@@ -21,22 +21,15 @@ loop-p-init c =
 
 pub returns-then-seen : goal.returns-then-seen
 returns-then-seen c =
-    let entry = c in
-    let if1 = c.loop-p-test in
-    let loop = c.loop-p in
-    let look = c.look-seen in
-    let R = entry.requires.0 in
+    let R = c.requires.0 in
     let small : _ = R.choice.few in
-    rw c.pack.ensures (sought-hit _ _ _ _ _ _ _ _ _ _ (omega arith) if1.true loop.invariant.0 (sym look.ensures.says ∙ c.if-seen.true))
+    rw c.pack.ensures (sought-hit _ _ _ _ _ _ _ _ _ _ (omega arith) c.loop-p-test.true c.loop-p.invariant.0 (sym c.look-seen.ensures.says ∙ c.if-seen.true))
 
 pub loop-p-preserved : goal.loop-p-preserved
 loop-p-preserved c =
-    let look = c.look-seen in
-    let if1 = c.loop-p-test in
-    let loop = c.loop-p in
     let R = c.requires.0 in
-    let w = look.ensures in
-    (sought-more _ _ _ _ _ _ _ _ _ _ R _ _ _ _ _ _ if1.true loop.invariant.0 (sym w.says ∙ c.if-seen.false) c.onward-p.ensures, w.apart)
+    let w = c.look-seen.ensures in
+    (sought-more _ _ _ _ _ _ _ _ _ _ R _ _ _ _ _ _ c.loop-p-test.true c.loop-p.invariant.0 (sym w.says ∙ c.if-seen.false) c.onward-p.ensures, w.apart)
 
 pub returns : goal.returns
 returns c = sought-out _ _ _ _ _ _ _ _ _ _ (omega (arith, c.loop-p-test.false)) c.loop-p.invariant.0

@@ -7,7 +7,8 @@ use Rattle.fingers.proofs.seek.Given as goal
 
 abbrev pub invariant-loop-p : goal.invariant-loop-p
 invariant-loop-p l =
-    Sought l.rows l.reads l.chosen l.n (outside l.mark l.b) l.j (l.finger / 4294967296) (l.finger / 65536 % 65536) (l.finger % 65536) l.p.star.0 l.p.read l.p.next
+    Sought l.rows l.reads l.chosen l.n (outside l.mark l.b) l.j (l.finger / 4294967296) (l.finger / 65536 % 65536) (l.finger % 65536)
+    l.p.star.0 l.p.read l.p.next
     × Apart l.rows l.chosen l.j l.seen.from.0 l.seen.to.0
 
 abbrev pub decreases-loop-p : goal.decreases-loop-p

@@ -8,11 +8,7 @@ use Rattle.fingers.proofs.start.Goals as goal
 pub loop-j-preserved : goal.loop-j-preserved
 unfolding start_of
 loop-j-preserved c =
-    let loop-test = c.loop-j-test in
-    let from-of = c.from_of in
-    let entry = c in
-    let loop = c.loop-j in
-    let l = loop-test.true in
-    let e = c.wide.ensures ∙ from-of.ensures in
+    let l = c.loop-j-test.true in
+    let e = c.wide.ensures ∙ c.from_of.ensures in
     let m = rw e at c.pack.ensures in
-    (omega arith, start-more _ _ _ _ _ _ (omega (arith, entry.requires.0.few)) m loop.invariant.1)
+    (omega arith, start-more _ _ _ _ _ _ (omega (arith, c.requires.0.few)) m c.loop-j.invariant.1)

@@ -1,7 +1,8 @@
 -- Fingers into what a label's stars read. A spot is a star (0 for none), the next of its reads, and the next chosen index
 -- of the variable of the read before. From it on come that index and those after it of its variable, those of the reads
 -- that are left, and those that the guards around the star read.
-use Rattle.std.specs.Prelude.{ℕ, zero, suc, ◌+◌, ◌*◌, ◌-◌, ◌/◌, ◌%◌, ◌<◌, ◌≤◌, Bool, true, false, cond, ◌&&◌, ◌||◌, not, ◌≡◌, List, eqb, ltb, leb, length, get_or, take, drop}
+use Rattle.std.specs.Prelude.{ℕ, zero, suc, ◌+◌, ◌*◌, ◌-◌, ◌/◌, ◌%◌, ◌<◌, ◌≤◌}
+use Rattle.std.specs.Prelude.{Bool, true, false, cond, ◌&&◌, ◌||◌, not, ◌≡◌, List, eqb, ltb, leb, length, get_or, take, drop}
 use Rattle.paper.specs.Limits.{most_reads, slots}
 use Rattle.paper.specs.Lists.{any_of}
 use Rattle.rows.specs.Rows.{kind_of, arg_of, from_of}

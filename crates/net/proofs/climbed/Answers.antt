@@ -24,9 +24,8 @@ loop-at-smaller c = (up (goal.at.loop-at-smaller c).After-parent_of-top).reached
 
 pub loop-at-preserved : goal.loop-at-preserved
 loop-at-preserved c =
-    let e = c in
-    let z = number_of e.end_of.ensures in
-    reached-next _ e.loop-at.invariant (omega arith) (up (goal.at.loop-at-preserved c).After-parent_of-top)
+    let z = number_of c.end_of.ensures in
+    reached-next _ c.loop-at.invariant (omega arith) (up (goal.at.loop-at-preserved c).After-parent_of-top)
 
 pub returns : goal.returns
 returns c =

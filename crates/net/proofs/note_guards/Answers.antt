@@ -8,11 +8,10 @@ use Rattle.net.proofs.note_guards.Goals as goal
 
 pub loop-i-init : goal.loop-i-init
 loop-i-init c =
-    let s = c in
-    let net = s.args.net.now in
-    let size = s.requires.1.size in (
+    let net = c.args.net.now in
+    let size = c.requires.1.size in (
       omega arith,
-      parents-kept _ s.requires.0.nested.few _ _ s.requires.1 (omega arith),
+      parents-kept _ c.requires.0.nested.few _ _ c.requires.1 (omega arith),
       guards-first _ net size,
       get_or-set_same net guards_from 0 0 (omega arith),
       only_none,

@@ -10,19 +10,14 @@ use Rattle.net.proofs.note_indices.Goals.{After-wide-first}
 use Rattle.net.proofs.note_indices.Goals as goal
 
 -- the variable of the label
-
 module _ (c : After-wide-first) where
-  of : let l = c in
-      let a = l.args in
-      c.wide-first.result ≡ variable_at a.rows.now a.chosen.now (l.loop-k.k - 1)
+  of : c.wide-first.result ≡ variable_at c.args.rows.now c.args.chosen.now (c.loop-k.k - 1)
   of = c.wide-first.ensures ∙ c.arg_of.ensures
 
-module _ (c : After-wide-first) where
   low : c.wide-first.result < most_variables
   low =
-      let l = c in
       let e = of in
-      let b = l.requires.0.variables (l.loop-k.k - 1) (omega arith) in
+      let b = c.requires.0.variables (c.loop-k.k - 1) (omega arith) in
       omega arith
 
 pub loop-k-init : goal.loop-k-init
@@ -34,9 +29,10 @@ loop-k-init c =
 pub loop-k-preserved : goal.loop-k-preserved
 loop-k-preserved c =
     let p = c.requires in
-    let l = c.loop-k.invariant in (
+    let l = c.loop-k.invariant in
+    let w = (goal.at.loop-k-preserved c).After-wide-first in (
       omega arith,
-      linked-more _ _ p.0.tree.nested.few _ _ _ l.1 (omega arith) l.0 p.0.few (of (goal.at.loop-k-preserved c).After-wide-first) (low (goal.at.loop-k-preserved c).After-wide-first),
+      linked-more _ _ p.0.tree.nested.few _ _ _ l.1 (omega arith) l.0 p.0.few (of w) (low w),
       only-more _ (only-more _ l.2 (inl (omega arith, omega arith))) (inr (omega arith)),
     )
 

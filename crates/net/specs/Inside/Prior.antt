@@ -33,4 +33,5 @@ variable_of rows chosen k = arg_of rows (get_or chosen k 0)
 
 -- the i-th chosen label comes before the j-th
 unfoldable pub prior : List ℕ → List ℕ → List ℕ → ℕ → ℕ → Bool
-prior rows reads chosen i j = is_frozen rows reads (get_or chosen j 0) (variable_of rows chosen i) && share_branch_in rows (get_or chosen i 0) (get_or chosen j 0)
+prior rows reads chosen i j =
+    is_frozen rows reads (get_or chosen j 0) (variable_of rows chosen i) && share_branch_in rows (get_or chosen i 0) (get_or chosen j 0)
