@@ -1,5 +1,4 @@
 -- 17 where the number of bytes is odd; else their words are judged.
-use borrow.Author.Rules.{rules}
 use Rattle.input.proofs.BytesJudged.{odd-judged, even-judged}
 use Rattle.input.proofs.judging.judge_bytes.Goals as goal
 
