@@ -1,0 +1,23 @@
+-- Once the bytes stand in front, the chosen labels among the kept are picked in reported order.
+use Rattle.answers.proofs.Keeping.{front-there, front_length, fillable, assigned-so}
+use Rattle.answers.proofs.numbered.put_assigned.Goals as goal
+
+pub slice_bounds-fill_assigned-end : goal.slice_bounds-fill_assigned-end
+slice_bounds-fill_assigned-end c =
+    let p = c.requires.0 in
+    (front-there _ _ p.accepted _ p.there _ _ c.put_kept.ensures).0
+
+pub slice_bounds-fill_assigned-end-2 : goal.slice_bounds-fill_assigned-end-2
+slice_bounds-fill_assigned-end-2 c =
+    let p = c.requires.0 in
+    front_length _ _ p.accepted _ p.there _ _ c.put_kept.ensures
+
+pub fill_assigned-requires : goal.fill_assigned-requires
+fill_assigned-requires c =
+    let p = c.requires.0 in
+    fillable _ _ p.accepted _ p.there _ _ c.put_kept.ensures _ c.requires.1 _ c.requires.2
+
+pub returns : goal.returns
+returns c =
+    let p = c.requires.0 in
+    assigned-so _ _ p.accepted _ p.there _ _ c.put_kept.ensures _ c.requires.1 _ _ _ c.fill_assigned.ensures.filled c.fill_assigned.ensures.after
