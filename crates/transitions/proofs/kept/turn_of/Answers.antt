@@ -1,20 +1,7 @@
--- `turn_of` goes by how the children take part: its returns are the definition's cases. Where all do by quotient and remainder,
--- a child's keys are at most those of all, so there is something to divide by.
-use Prim.Native.Nat.{ℕ, ◌*◌, ◌/◌, ◌<◌, ◌≤◌}
-use native.Mathlib.Omega.{arith}
-use native.Mathlib.Nat.{le-div_iff_mul-le, one-mul}
-use mathlib.Core.Path.{◌≡◌, subst}
+-- `turn_of` goes by how the children take part: its returns are the definition's cases.
 use borrow.Author.Tests.{lt-ltb, le-ltb}
-use Rattle.transitions.specs.declared.Shares.{Shares}
-use Rattle.transitions.specs.declared.Shares.TheVariants.{Each}
-use Rattle.transitions.specs.Inside.Kept.{CanTake, turn_of}
+use Rattle.transitions.specs.Inside.Kept.{turn_of}
 use Rattle.transitions.proofs.kept.turn_of.Goals as goal
-
-some-rest : {s : Shares} (own k all : ℕ) → CanTake s own → s ≡ Each k all → (0 < own) × (0 < all / own)
-some-rest own k all p e =
-    let (some, most) = subst (λ s. CanTake s own) e p in
-    let once : 1 * own ≤ all = omega (arith, one-mul own) in
-    (some, (le-div_iff_mul-le some).1 once)
 
 pub returns-then-k-own : goal.returns-then-k-own
 unfolding turn_of
