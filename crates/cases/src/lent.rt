@@ -28,28 +28,28 @@ fn some_bytes() -> [u8; 4104] {
 }
 
 // The order, in a slice of so many words.
-pub fn order(words: &[u16], len: usize) {
+pub fn order(rt: &impl Print, words: &[u16], len: usize) {
     let mut out = some_words();
     let n = lendable(len);
     let answer = nocturenc::requests::order(words, &mut out[..n]);
-    show(answer, &out[..n + 8]);
+    show(rt, answer, &out[..n + 8]);
 }
 
 // The assignments of transition k, in a slice of so many words.
-pub fn assignments(words: &[u16], k: usize, len: usize) {
+pub fn assignments(rt: &impl Print, words: &[u16], k: usize, len: usize) {
     let mut out = some_words();
     let n = lendable(len);
     let answer = nocturenc::requests::assignments(words, k, &mut out[..n]);
-    show(answer, &out[..n + 8]);
+    show(rt, answer, &out[..n + 8]);
 }
 
 // The kept labels of transition k, in a slice of so many bytes.
-pub fn transition(words: &[u16], k: usize, len: usize) {
+pub fn transition(rt: &impl Print, words: &[u16], k: usize, len: usize) {
     let mut out = some_bytes();
     let n = lendable(len);
     let answer = nocturenc::requests::transition(words, k, &mut out[..n]);
     let shown = widened(&out);
-    show(answer, &shown[..n + 8]);
+    show(rt, answer, &shown[..n + 8]);
 }
 
 // A byte as a word.
@@ -69,29 +69,29 @@ fn widened(bytes: &[u8; 4104]) -> [u16; 4104] {
 }
 
 // Prints an answer, and the words by runs.
-fn show(answer: Filled, words: &[u16]) {
-    filled(answer);
-    write::text(b" :");
-    runs(words);
+fn show(rt: &impl Print, answer: Filled, words: &[u16]) {
+    filled(rt, answer);
+    write::text(rt, b" :");
+    runs(rt, words);
 }
 
 // How many were filled, or the refusal.
-fn filled(answer: Filled) {
+fn filled(rt: &impl Print, answer: Filled) {
     match answer {
         Filled::Done(n) => {
-            write::text(b" filled");
-            write::number(n.count);
+            write::text(rt, b" filled");
+            write::number(rt, n.count);
         }
-        Filled::Refused(r) => write::refusal(r),
+        Filled::Refused(r) => write::refusal(rt, r),
     }
 }
 
 // Prints the words by runs.
-fn runs(words: &[u16]) {
+fn runs(rt: &impl Print, words: &[u16]) {
     let mut i = 0;
     while i < words.len() {
         let end = run_end(words, i);
-        run(end - i, words[i]);
+        run(rt, end - i, words[i]);
         i = end;
     }
 }
@@ -112,12 +112,12 @@ fn run_end(words: &[u16], at: usize) -> usize
 }
 
 // Prints a run.
-fn run(times: usize, value: u16) {
+fn run(rt: &impl Print, times: usize, value: u16) {
     if times == 1 {
-        write::word(value);
+        write::word(rt, value);
         return;
     }
-    write::number(times);
-    write::text(b"*");
-    write::digits(value as usize);
+    write::number(rt, times);
+    write::text(rt, b"*");
+    write::digits(rt, value as usize);
 }

@@ -11,6 +11,7 @@
 
 mod heading; // what stands between a request and the words
 mod lent; // the requests that fill a lent slice
+mod reading; // the list, read
 mod requests; // the requests, and what is printed of their answers
 mod scan; // lines, fields, signs and numbers
 mod words; // the words of a table, as a line writes them
@@ -19,7 +20,7 @@ mod write; // printing
 ghost use Rattle.std.specs.Prelude.{◌≤◌, length};
 
 use heading::{Heading, heading_at};
-use libc::STDIN_FILENO;
+use reading::read_full;
 use requests::{request_of, run, takes};
 use scan::{END, FIELD, GAP, find};
 use words::lay_out;
@@ -35,21 +36,21 @@ fn words_room() -> [u16; 32768] {
 }
 
 // Makes a request with the words that follow a heading.
-fn run_words(line: &[u8], request: usize, heading: Heading)
+fn run_words(rt: &impl Print, line: &[u8], request: usize, heading: Heading)
     requires { heading.body ≤ length line.now }
 {
     let mut words = words_room();
     let place = lay_out(line, heading.body, &mut words);
     if place.at < line.len() {
-        write::malformed(place.at + 1);
+        write::malformed(rt, place.at + 1);
         return;
     }
     let count = place.count;
-    run(request, heading.first, heading.second, &words[..count]);
+    run(rt, request, heading.first, heading.second, &words[..count]);
 }
 
 // Runs the case of a line whose name ends at `at`.
-fn run_case(line: &[u8], at: usize)
+fn run_case(rt: &impl Print, line: &[u8], at: usize)
     requires { at ≤ length line.now }
 {
     let from = find(line, at, FIELD);
@@ -57,9 +58,9 @@ fn run_case(line: &[u8], at: usize)
     let request = request_of(&line[from..end]);
     let heading = heading_at(line, end);
     if takes(request, heading) {
-        run_words(line, request, heading);
+        run_words(rt, line, request, heading);
     } else {
-        write::malformed(from + 1);
+        write::malformed(rt, from + 1);
     }
 }
 
@@ -69,32 +70,32 @@ fn is_case(line: &[u8], from: usize) -> bool {
 }
 
 // Runs a line, if it is a case.
-fn run_line(line: &[u8]) {
+fn run_line(rt: &impl Print, line: &[u8]) {
     let from = find(line, 0, FIELD);
     if !is_case(line, from) {
         return;
     }
     let end = find(line, from, GAP);
-    write::text(&line[from..end]);
-    run_case(line, end);
-    write::text(b"\n");
+    write::text(rt, &line[from..end]);
+    run_case(rt, line, end);
+    write::text(rt, b"\n");
 }
 
 // Runs all lines of a list.
-fn run_list(list: &[u8]) {
+fn run_list(rt: &impl Print, list: &[u8]) {
     let mut at = 0;
     while at < list.len() {
         let end = find(list, at, END);
-        run_line(&list[at..end]);
+        run_line(rt, &list[at..end]);
         at = end + 1;
     }
 }
 
-fn main() {
+fn main(rt: HostRuntime) {
     let mut list = list_room();
-    let n = io::read_full(STDIN_FILENO, &mut list);
-    run_list(&list[..n]);
+    let n = read_full(&mut rt.stdin(), &mut list);
+    run_list(&rt, &list[..n]);
     if n == list.len() {
-        write::text(b"the list is too long\n");
+        write::text(&rt, b"the list is too long\n");
     }
 }

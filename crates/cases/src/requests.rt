@@ -50,54 +50,54 @@ pub fn takes(request: usize, heading: Heading) -> bool {
 }
 
 // Makes a request of the library with the numbers of its heading, and prints what it gives.
-pub fn run(request: usize, first: usize, second: usize, words: &[u16]) {
+pub fn run(rt: &impl Print, request: usize, first: usize, second: usize, words: &[u16]) {
     match request {
-        CHECK => check(words),
-        JUDGE => judge(words),
-        ORDER => lent::order(words, first),
-        TRANSITION => lent::transition(words, first, second),
-        ASSIGNMENTS => lent::assignments(words, first, second),
-        ROW => row(reader::row_of(words, first)),
-        PAST => row(reader::row_past(words, first)),
+        CHECK => check(rt, words),
+        JUDGE => judge(rt, words),
+        ORDER => lent::order(rt, words, first),
+        TRANSITION => lent::transition(rt, words, first, second),
+        ASSIGNMENTS => lent::assignments(rt, words, first, second),
+        ROW => row(rt, reader::row_of(words, first)),
+        PAST => row(rt, reader::row_past(words, first)),
         _ => {}
     }
 }
 
 // What the table layer says of the words.
-fn check(words: &[u16]) {
+fn check(rt: &impl Print, words: &[u16]) {
     let found = table::check(words);
     match found {
         Checked::Sound(l) => {
-            write::text(b" sound");
-            write::four(l.variables, l.reads, l.rows, l.chosen);
+            write::text(rt, b" sound");
+            write::four(rt, l.variables, l.reads, l.rows, l.chosen);
         }
-        Checked::Refused(r) => write::refusal(r),
+        Checked::Refused(r) => write::refusal(rt, r),
     }
 }
 
 // What judge says of the words.
-fn judge(words: &[u16]) {
+fn judge(rt: &impl Print, words: &[u16]) {
     let found = nocturenc::requests::judge(words);
     match found {
         Answer::Accepted(c) => {
-            write::text(b" accepted");
-            write::four(c.variables, c.rows, c.chosen, c.transitions);
+            write::text(rt, b" accepted");
+            write::four(rt, c.variables, c.rows, c.chosen, c.transitions);
         }
-        Answer::Refused(r) => write::refusal(r),
+        Answer::Refused(r) => write::refusal(rt, r),
     }
 }
 
 // What the table reader finds.
-fn row(found: Found) {
+fn row(rt: &impl Print, found: Found) {
     match found {
         Found::Here(r) => {
-            write::text(b" row");
-            write::word(r.label.0);
-            write::word(r.kind);
-            write::word(r.arg);
-            write::word(r.end.0);
-            write::word(r.from);
+            write::text(rt, b" row");
+            write::word(rt, r.label.0);
+            write::word(rt, r.kind);
+            write::word(rt, r.arg);
+            write::word(rt, r.end.0);
+            write::word(rt, r.from);
         }
-        Found::Absent => write::text(b" absent"),
+        Found::Absent => write::text(rt, b" absent"),
     }
 }

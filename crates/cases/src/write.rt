@@ -1,39 +1,38 @@
-// What is printed: text, and numbers each after a space.
-use libc::STDOUT_FILENO;
+// What is printed: text, and numbers each after a space. What a failing call does not print is passed over.
 use paper::Refusal;
 
-pub fn text(bytes: &[u8]) {
-    io::write_all(STDOUT_FILENO, bytes);
+pub fn text(rt: &impl Print, bytes: &[u8]) {
+    let _ = rt.write_all(bytes);
 }
 
-pub fn digits(n: usize) {
-    io::print_decimal(STDOUT_FILENO, n as u64);
+pub fn digits(rt: &impl Print, n: usize) {
+    let _ = rt.print(n);
 }
 
-pub fn number(n: usize) {
-    text(b" ");
-    digits(n);
+pub fn number(rt: &impl Print, n: usize) {
+    text(rt, b" ");
+    digits(rt, n);
 }
 
-pub fn word(w: u16) {
-    number(w as usize);
+pub fn word(rt: &impl Print, w: u16) {
+    number(rt, w as usize);
 }
 
-pub fn four(a: usize, b: usize, c: usize, d: usize) {
-    number(a);
-    number(b);
-    number(c);
-    number(d);
+pub fn four(rt: &impl Print, a: usize, b: usize, c: usize, d: usize) {
+    number(rt, a);
+    number(rt, b);
+    number(rt, c);
+    number(rt, d);
 }
 
-pub fn refusal(r: Refusal) {
-    text(b" refused");
-    number(r.number as usize);
-    number(r.place as usize);
+pub fn refusal(rt: &impl Print, r: Refusal) {
+    text(rt, b" refused");
+    number(rt, r.number as usize);
+    number(rt, r.place as usize);
 }
 
 // Of a line that is no case: the column, from 1 on, where that shows.
-pub fn malformed(at: usize) {
-    text(b" malformed at column");
-    number(at);
+pub fn malformed(rt: &impl Print, at: usize) {
+    text(rt, b" malformed at column");
+    number(rt, at);
 }

@@ -18,6 +18,7 @@ use input::words::fill_words;
 use output::Written;
 use paper::limits::{MOST_BYTES, SLOTS};
 use reading::{Read, read_input};
+use std::io;
 use writing::write_listing;
 
 // What was read, and how far its listing was written.
@@ -28,7 +29,7 @@ struct Ran {
 }
 
 // Lists the table that bytes write.
-fn list(bytes: &[u8]) -> Written
+fn list(rt: &impl Print, bytes: &[u8]) -> Written
     requires { length bytes.now ≤ most_bytes }
     ensures { Reached (listing_of bytes.now) result }
 {
@@ -36,21 +37,21 @@ fn list(bytes: &[u8]) -> Written
     let count = fill_words(bytes, &mut words);
     let mut order = [0u16; SLOTS];
     let judged = judge_bytes(bytes, &words[..count], &mut order);
-    write_listing(bytes, &words[..count], judged, &order)
+    write_listing(rt, bytes, &words[..count], judged, &order)
 }
 
 // Reads a table into `bytes`, and lists it.
-fn run(bytes: &mut [u8]) -> Ran
+fn run<R: io::Read>(rt: &impl Print, input: &mut R, bytes: &mut [u8]) -> Ran
     requires { length bytes.old ≡ most_bytes }
     ensures { RanSo bytes.new result }
 {
-    let read = read_input(bytes);
+    let read = read_input(input, bytes);
     let count = read.count;
-    let written = list(&bytes[..count]);
+    let written = list(rt, &bytes[..count]);
     Ran { read, written }
 }
 
-fn main() {
-    let mut bytes = io::large_buffer();
-    run(&mut bytes);
+fn main(rt: HostRuntime) {
+    let mut bytes = [0u8; MOST_BYTES];
+    run(&rt, &mut rt.stdin(), &mut bytes);
 }

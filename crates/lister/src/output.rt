@@ -4,8 +4,6 @@ ghost use Rattle.std.specs.Prelude.{◌≡◌, true};
 ghost use Rattle.lister.specs.Listing.{listing_of};
 ghost use Rattle.lister.specs.Running.{NextPart, HandedOver};
 
-use libc::STDOUT_FILENO;
-
 // How many bytes of a listing the writing call has taken, and whether it took all that it was given.
 #[derive(Clone, Copy)]
 pub struct Written {
@@ -28,12 +26,12 @@ pub fn is_whole(w: Written) -> bool
 }
 
 // Gives the part of the listing of the bytes that comes next to the writing call.
-pub fn write_next(bytes: &[u8], w: Written, part: &[u8]) -> Written
+pub fn write_next(rt: &impl Print, bytes: &[u8], w: Written, part: &[u8]) -> Written
     requires { NextPart (listing_of bytes.now) w part.now }
     ensures { HandedOver w part.now result }
 {
     let at = w.at;
-    if io::write_all(STDOUT_FILENO, part) {
+    if rt.write_all(part).is_ok() {
         return Written {
             at: at + part.len(),
             whole: true,

@@ -1,10 +1,10 @@
 // What is read: at most 65,536 bytes, the first ones of a longer input (document 01, "Refusal numbers, in the order of checks"). No
 // contract can say what a reading call puts into the buffer.
-ghost use Rattle.std.specs.Prelude.{◌≡◌, length};
+ghost use Rattle.std.specs.Prelude.{◌≡◌, ◌≤◌, length};
 ghost use Rattle.lister.specs.Running.{ReadSo};
 ghost use Rattle.paper.specs.Limits.{most_bytes};
 
-use libc::STDIN_FILENO;
+use std::io;
 
 // How many bytes were read, and whether a reading call gave no more of them.
 #[derive(Clone, Copy)]
@@ -14,14 +14,13 @@ pub struct Read {
 }
 
 // Reads until the buffer is full, or a reading call gives nothing more.
-pub fn read_input(bytes: &mut [u8]) -> Read
+pub fn read_input<R: io::Read>(input: &mut R, bytes: &mut [u8]) -> Read
     requires { length bytes.old ≡ most_bytes }
     ensures { ReadSo result }
 {
     let mut count = 0;
     while count < bytes.len() {
-        let got = libc::read(STDIN_FILENO, &mut bytes[count..]);
-        let more = io::count(got, &bytes[count..]);
+        let more = read_some(input, &mut bytes[count..]);
         if more == 0 {
             return Read { count, ended: true };
         }
@@ -31,4 +30,11 @@ pub fn read_input(bytes: &mut [u8]) -> Read
         count,
         ended: false,
     }
+}
+
+// How many bytes one reading call puts in front. One that fails gives nothing more.
+fn read_some<R: io::Read>(input: &mut R, bytes: &mut [u8]) -> usize
+    ensures { result ≤ length bytes.new }
+{
+    input.read(bytes).unwrap_or(0)
 }

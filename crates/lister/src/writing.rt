@@ -6,24 +6,31 @@ ghost use Rattle.lister.specs.Inside.Steps.{Prepared};
 use crate::basis::basis_if_accepted;
 use crate::output::{Written, is_whole, nothing_yet, write_next};
 use crate::parts::{pieces_of, put_part};
+use paper::limits::MOST_BYTES;
 use strategy::Judged;
 
 // Writes the listing of the bytes, whose words these are and which are judged so, with the order that is reported: all of it, in order,
 // each part once, for as long as the writing call takes what it is given.
-pub fn write_listing(bytes: &[u8], words: &[u16], judged: Judged, order: &[u16]) -> Written
+pub fn write_listing(
+    rt: &impl Print,
+    bytes: &[u8],
+    words: &[u16],
+    judged: Judged,
+    order: &[u16],
+) -> Written
     requires { Prepared bytes.now words.now judged order.now }
     ensures { Reached (listing_of bytes.now) result }
 {
     let basis = basis_if_accepted(words, judged);
     let marks = basis.marks;
     let count = pieces_of(judged);
-    let mut text = io::large_buffer();
+    let mut text = [0u8; MOST_BYTES];
     let mut next = 0;
     let mut written = nothing_yet();
     while next < count {
         let part = put_part(words, judged, &marks, basis.own, order, next, &mut text);
         let length = part.length;
-        written = write_next(bytes, written, &text[..length]);
+        written = write_next(rt, bytes, written, &text[..length]);
         if !is_whole(written) {
             return written;
         }
