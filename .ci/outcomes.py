@@ -4,7 +4,8 @@
 Every `pub fn` and `pub extern "C" fn`, methods too, has one statement in its crate's proofs/OneOutcome.antt: any two outcomes that
 its own contract allows are equal. One that lends and can refuse has one more in proofs/RefusalLeaves.antt: a refusal leaves all
 that was lent as it was. A statement bears the function's name and is, word for word, of one form over the modules that the prover
-makes of that function. Programs have no public functions, and are passed over.
+makes of that function. Programs have no public functions, and are passed over. The functions that C links, in crate nocturenc_c, have the
+clauses of those of the library that they call, in crate nocturenc.
 """
 import glob
 import os
@@ -159,6 +160,21 @@ def compare(crate, file, functions, forms):
     )
 
 
+def heads(path):
+    """What each public function of a source file takes, gives and promises: its text from its name to its body."""
+    text = without("//", path)
+    return {m[1]: " ".join(m[2].split()) for m in re.finditer(r'\bpub\b\s*(?:extern\s*""\s*)?fn\s+(\w+)(.*?)\n\{\n', text, re.S)}
+
+
+def exports():
+    """The functions that C links have the names and the clauses of the library's. Gives how many there are."""
+    library, archive = heads("crates/nocturenc/src/exported.rt"), heads("crates/nocturenc_c/src/lib.rt")
+    for name in sorted(library.keys() | archive.keys()):
+        if library.get(name) != archive.get(name):
+            failures.append(f"{name}: nocturenc has\n  {library.get(name)}\nand nocturenc_c\n  {archive.get(name)}")
+    return len(archive)
+
+
 def but_for(file):
     """How many are excepted."""
     excepted = sum(e[1] == file for e in EXCEPTIONS)
@@ -176,6 +192,7 @@ def main():
         compare(crate, "OneOutcome", functions, one_outcome)
         compare(crate, "RefusalLeaves", can_refuse, refusal_leaves)
         number, refusing, owners = number + len(functions), refusing + len(can_refuse), owners + bool(functions)
+    exported = exports()
     for line in failures:
         print(f"outcomes: {line}")
     if failures:
@@ -184,6 +201,7 @@ def main():
     for (crate, file, name), reason in EXCEPTIONS.items():
         print(f"outcomes: excepted from {file}: {name} of {crate}: {reason}")
     print(f"outcomes: {refusing} public functions lend and can refuse, each leaving what was lent where it does{but_for('RefusalLeaves')}")
+    print(f"outcomes: {exported} functions for C, with the clauses of the library's")
     print(f"outcomes: {number} public functions of {owners} crates, each with one outcome{but_for('OneOutcome')}")
 
 
