@@ -1,0 +1,8 @@
+-- The answer is packed, and the lent slice is as the request leaves it.
+use mathlib.Core.Path.{sym, subst}
+use Rattle.answers.specs.Inside.Judged.{FitFilled}
+use Rattle.answers.proofs.Amounts.{assignments-fit}
+use Rattle.nocturenc.proofs.exported.nocturenc_assignments.Goals as goal
+
+pub packed_filled-requires : goal.packed_filled-requires
+packed_filled-requires c = subst FitFilled (sym c.assignments.ensures.answered) (assignments-fit _ _ _)
