@@ -34,6 +34,7 @@ one_number (x ∷ ks) c (suc j) (suc k) h g e = ap suc (one_number ks c.1 j k (o
 
 -- lists made alike from one list are made alike of each member
 at_each : (g h : Label → ℕ) (xs : List Label) {x : Label} → map g xs ≡ map h xs → Memᴰ x xs → g x ≡ h x
+at_each g h [] e t = elim t [ ]
 at_each g h (y ∷ xs) e (Memᴰ.head q) = let z : g y ≡ h y = cc in rw q z
 at_each g h (y ∷ xs) e (Memᴰ.tail t) = at_each g h xs (let z : map g xs ≡ map h xs = cc in z) t
 

@@ -10,7 +10,6 @@ use Rattle.rows.specs.Rows.{form_of}
 use Rattle.rows.specs.Formula.{star_at, children_at, node_at, formula_at}
 use Rattle.written.specs.Example.{words_of_p, table_of_p}
 use Rattle.written.proofs.Example.{P-is-written, P-is-within}
-use Rattle.strategy.specs.Judge.{judged_of}
 use Rattle.strategy.proofs.Example.{P-is-accepted}
 use Rattle.filling.specs.Filling.{Outcome, fills}
 use Rattle.answers.specs.declared.Counts.{Counts}

@@ -1,7 +1,6 @@
 -- Demand 2, the judgement (specs/Demands.antt, `JudgedExactly`): an acceptance is read from the answer exactly if the words write a
 -- table that is to be accepted, and its counts are those of that table.
 use Prim.Native.Nat.{ℕ, ◌≤◌}
-use native.Mathlib.Omega.{arith}
 use mathlib.Core.Path.{◌≡◌, refl, sym, ap, subst, ◌∙◌}
 use mathlib.Core.Bool.{false≢true}
 use mathlib.Core.List.{List}

@@ -2,7 +2,7 @@
 -- it asks of the caller and `Post` what it allows, as the prover reads them. And what C reads from the one number that each
 -- function answers (include/nocturenc.h). Every demand is stated over these.
 use Rattle.std.specs.Prelude.{ℕ, ◌/◌, ◌%◌, ◌^◌, List}
-use Rattle.std.specs.Borrow.{GName, Bor}
+use Rattle.std.specs.Borrow.{GName, Bor, MutBor}
 use contract.Lifetimes.{Lfts}
 use denote.Triple.Clauses.{Lasts, at_exit}
 use borrow.Fn.Kinds.{ParamKind, ResultKind, Dens, res_t, ended_of, Out}
@@ -15,13 +15,16 @@ use Rattle.nocturenc.proofs.exported.nocturenc_transition.Reads as Transition
 use Rattle.nocturenc.proofs.exported.nocturenc_assignments.Kinds as AssignmentsKinds
 use Rattle.nocturenc.proofs.exported.nocturenc_assignments.Reads as Assignments
 
--- where a lent slice lies, and a slice there that holds these words or bytes
+-- where a lent slice lies, and a slice there that holds these words or bytes: one to be read, and one to be written
 pub record Address : Type 0 where
   pub at : ℕ × ℕ
   pub name : GName
 
 abbrev pub slice : Address → List ℕ → Bor (List ℕ)
-slice where-it-lies contents = record { ref_ptr = where-it-lies.at; ghost_name = where-it-lies.name; now = contents }
+slice where-it-lies contents = record { ref_ptr = where-it-lies.at; now = contents }
+
+abbrev pub open_slice : Address → List ℕ → MutBor (List ℕ)
+open_slice where-it-lies contents = record { ref_ptr = where-it-lies.at; ghost_name = where-it-lies.name; now = contents }
 
 -- a contract allows the answer r to the arguments, where what was lent to be written is left as `last` says
 module _ (n : ℕ) (ps : List (ParamKind n)) (answer : ResultKind n) (post : Out n ps answer) (κs : Lfts n) where
@@ -39,18 +42,18 @@ Request = List ℕ → List ℕ → ℕ → Type 0
 -- what nocturenc_order may do
 abbrev pub OrderAnswers : List ℕ → Request
 OrderAnswers words lent left r =
-    (κs : Lfts 2) × (i o : Address) × Allows 2 OrderKinds.ps OrderKinds.r Order.Post κs (slice i words, (slice o lent, tt)) (tt, (left, tt)) r
+    (κs : Lfts 2) × (i o : Address) × Allows 2 OrderKinds.ps OrderKinds.r Order.Post κs (slice i words, (open_slice o lent, tt)) (tt, (left, tt)) r
 
 -- what nocturenc_transition and nocturenc_assignments may do when asked for number k
 abbrev pub TransitionAnswers : List ℕ → ℕ → Request
 TransitionAnswers words k lent left r =
     (κs : Lfts 2) × (i o : Address)
-    × Allows 2 TransitionKinds.ps TransitionKinds.r Transition.Post κs (slice i words, (k, (slice o lent, tt))) (tt, (tt, (left, tt))) r
+    × Allows 2 TransitionKinds.ps TransitionKinds.r Transition.Post κs (slice i words, (k, (open_slice o lent, tt))) (tt, (tt, (left, tt))) r
 
 abbrev pub AssignmentsAnswers : List ℕ → ℕ → Request
 AssignmentsAnswers words k lent left r =
     (κs : Lfts 2) × (i o : Address)
-    × Allows 2 AssignmentsKinds.ps AssignmentsKinds.r Assignments.Post κs (slice i words, (k, (slice o lent, tt))) (tt, (tt, (left, tt))) r
+    × Allows 2 AssignmentsKinds.ps AssignmentsKinds.r Assignments.Post κs (slice i words, (k, (open_slice o lent, tt))) (tt, (tt, (left, tt))) r
 
 -- the contracts ask nothing of the caller
 pub record AsksNothing : Type 0 where
