@@ -1,6 +1,6 @@
 -- The listing is written part after part. The invariant: all pieces below the next one were given and taken, so as many bytes are taken as
 -- they have. Each part that is given is what follows there in the listing; after the last one all of it is taken.
-use Prim.Native.Nat.{ℕ, ◌+◌, ◌*◌, ◌<◌, ◌≤◌}
+use Prim.Native.Nat.{ℕ, ◌*◌, ◌<◌, ◌≤◌}
 use native.Mathlib.Omega.{arith}
 use mathlib.Core.Path.{◌≡◌, refl, sym, ap, ◌∙◌}
 use mathlib.Core.Bool.{true, false}

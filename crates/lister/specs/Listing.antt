@@ -1,6 +1,6 @@
 -- What the lister prints for the bytes that it read (document 01, "A listing, whole", and refusal 17): the lines of crate listing,
 -- filled with what the judgement and the requests answer.
-use Rattle.std.specs.Prelude.{ℕ, zero, suc, ◌+◌, List, [], ◌++◌, map}
+use Rattle.std.specs.Prelude.{ℕ, zero, suc, List, [], ◌++◌, map}
 use Rattle.paper.specs.Transition.{kept_labels}
 use Rattle.table.specs.declared.Layout.{Layout}
 use Rattle.written.specs.Tables.{formula_in}
@@ -9,7 +9,7 @@ use Rattle.strategy.specs.declared.Judged.{Judged}
 use Rattle.strategy.specs.declared.Judged.TheVariants as judged
 use Rattle.strategy.specs.Judge.{order_in, proposal_in}
 use Rattle.input.specs.Bytes.{words_of, judged_bytes}
-use Rattle.answers.specs.Requests.{reported, key_of, assigned_of}
+use Rattle.answers.specs.Requests.{key_of, assigned_of}
 use Rattle.listing.specs.Text.{accepted_line, order_line, transition_line, refused_line}
 
 -- the first line, V, N, S and the transitions; then the order
