@@ -239,7 +239,7 @@ module _ (g : Graph) (mark stack bound finger : List ℕ) (len top at : ℕ) (P 
           (λ q e. absurd (omega arith)) (λ q e. P.fresh i hi e);
       passed = λ p hp. at_set stack len f s-long
           (λ z. (i : ℕ) → i < g.size → g.passed z (get_or finger z 0) i ≡ true → g.before i z ≡ true → (get_or mark' i 0 ≡ 1 → ⊥)
-              → Beyond p (get_or mark' i 0)) p
+          → Beyond p (get_or mark' i 0)) p
           (λ q i hi t e. never (g.before i f) e (P.fresh f hf new i hi t))
           (λ q i hi t e. at_set mark f (len + 2) f-long (λ z. (z ≡ 1 → ⊥) → Beyond p z) i
           (λ same _. absurd (let m : get_or mark i 0 ≡ 0 = ap (λ z. get_or mark z 0) same ∙ new in
