@@ -10,21 +10,18 @@ name: the command nocturenc, the header, the examples and what is built. Runs fr
 import os
 import pathlib
 import re
-import shutil
 import subprocess
 import sys
+import tempfile
 
-SCRATCH = pathlib.Path("target/host/readme")
 NEEDED = ("nocturenc", "include", "examples", "target")
 SUFFIX = {"c": ".c", "rust": ".rs"}
 
 
-def scratch():
-    """An empty folder with links to what the commands name."""
-    shutil.rmtree(SCRATCH, ignore_errors=True)
-    SCRATCH.mkdir(parents=True)
+def fill(folder):
+    """Puts links to what the commands name into an empty folder. It is none of the repository's: the prover's gate refuses links there."""
     for name in NEEDED:
-        (SCRATCH / name).symlink_to(pathlib.Path(name).resolve())
+        (folder / name).symlink_to(pathlib.Path(name).resolve())
 
 
 def blocks(text):
@@ -41,10 +38,10 @@ def blocks(text):
                 yield None, line[2:], "".join(printed + "\n" for printed in rest[:until])
 
 
-def run(command, wanted):
+def run(folder, command, wanted):
     """Gives what is wrong with a command, or None. It ends with 1 where a refusal is shown, else with 0, and says nothing beside
     that it builds something."""
-    done = subprocess.run(["bash", "-c", command], cwd=SCRATCH, capture_output=True, text=True, check=False)
+    done = subprocess.run(["bash", "-c", command], cwd=folder, capture_output=True, text=True, check=False)
     complaints = [line for line in done.stderr.splitlines() if not line.startswith("nocturenc: ")]
     status = 1 if wanted.startswith("refused") else 0
     if done.stdout == wanted and not complaints and done.returncode == status:
@@ -52,8 +49,9 @@ def run(command, wanted):
     return "$ %s\nstatus %d, printed:\n%s%swanted:\n%s" % (command, done.returncode, done.stdout, done.stderr, wanted)
 
 
-def main():
-    scratch()
+def follow(folder):
+    """Goes through the page in a folder, and gives the exit status."""
+    fill(folder)
     programs, commands, waiting = 0, 0, {}
     for language, text, *wanted in blocks(pathlib.Path("README.md").read_text(encoding="utf-8")):
         if language:
@@ -62,15 +60,20 @@ def main():
         for suffix in list(waiting):
             named = re.search(r"\S+" + re.escape(suffix) + r"(?=\s|$)", text)
             if named:
-                (SCRATCH / os.path.basename(named[0])).write_text(waiting.pop(suffix), encoding="utf-8")
+                (folder / os.path.basename(named[0])).write_text(waiting.pop(suffix), encoding="utf-8")
                 programs += 1
-        fault = run(text, wanted[0])
+        fault = run(folder, text, wanted[0])
         if fault:
             print("readme: %s" % fault)
             return 1
         commands += 1
     print("readme: %d programs compiled, %d commands run" % (programs, commands))
     return 0 if programs == 2 and commands >= 7 and not waiting else 1
+
+
+def main():
+    with tempfile.TemporaryDirectory() as folder:
+        return follow(pathlib.Path(folder))
 
 
 if __name__ == "__main__":

@@ -82,7 +82,7 @@ extern "C" {
 
 /* Stack that a call may use. No proof bounds the stack, so this is measured: host/stack.rs puts every request about the deepest,
  * largest and hardest tables known to a thread whose stack is filled with a pattern, and sees how far down the pattern is gone.
- * The most was 87,471 bytes. The gate measures again and fails where twice the most is above this figure. It is for the archive
+ * The most was 86,607 bytes. The gate measures again and fails where twice the most is above this figure. It is for the archive
  * that crates/nocturenc_c is built into; what a thread needs for itself comes on top. */
 #define NOCTURENC_STACK_BYTES 196608
 
