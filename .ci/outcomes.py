@@ -36,11 +36,12 @@ def without(comment, path):
 class Function:
     """A public function: the prover's modules of it, its statements' name, which parameters are lent to be changed, its result."""
 
-    def __init__(self, crate, modules, name, parameters, result):
+    def __init__(self, crate, modules, name, exported, parameters, result):
         whole = modules + [name]
         self.path = ".".join([f"Rattle.{crate}.proofs"] + whole)
         self.shown = "::".join([crate] + whole)
         self.statement = "-".join([m.lower() for m in modules if m[0].isupper()] + [name]).replace("_", "-")
+        self.exported = exported
         self.lent = [bool(re.search(r"&\s*('\w+\s+)?mut\b", p)) for p in parameters]
         self.result = result
 
@@ -77,12 +78,12 @@ def public_functions(crate):
         text = without("//", path)
         methods = [(i.group(1), i.end() - 1) for i in re.finditer(r"\bimpl\b[^{;]*?\b([A-Z]\w*)\s*(?:<[^>]*>)?\s*\{", text)]
         methods = [(name, start, closing(text, start)) for name, start in methods]
-        for item in re.finditer(r'\bpub\b\s*(?:\([^)]*\)\s*)?(?:extern\s*""\s*)?fn\s+(\w+)\s*(?:<[^>]*>)?\s*\(', text):
+        for item in re.finditer(r'\bpub\b\s*(?:\([^)]*\)\s*)?(extern\s*""\s*)?fn\s+(\w+)\s*(?:<[^>]*>)?\s*\(', text):
             end = closing(text, item.end() - 1)
             result = re.match(r"\s*->\s*(\S+)", text[end + 1 :])
             owner = [name for name, start, stop in methods if start < item.start() < stop]
             parameters = parts(text[item.end() : end])
-            found.append(Function(crate, modules + owner, item.group(1), parameters, result and result.group(1)))
+            found.append(Function(crate, modules + owner, item.group(2), bool(item.group(1)), parameters, result and result.group(1)))
     return found
 
 
@@ -166,12 +167,23 @@ def heads(path):
     return {m[1]: " ".join(m[2].split()) for m in re.finditer(r'\bpub\b\s*(?:extern\s*""\s*)?fn\s+(\w+)(.*?)\n\{\n', text, re.S)}
 
 
+def cited(path):
+    """Each word that the clauses of a source file may cite, with the module that it is brought from."""
+    text = without("//", path)
+    brought_in = re.findall(r"^ghost use (\S+)\.\{([^}]*)\};$", text, re.M)
+    return {name.strip(): module for module, listed in brought_in for name in listed.split(",")}
+
+
 def exports():
-    """The functions that C links have the names and the clauses of the library's. Gives how many there are."""
-    library, archive = heads("crates/nocturenc/src/exported.rt"), heads("crates/nocturenc_c/src/lib.rt")
+    """The functions that C links have the names and the clauses of the library's, of the same words. Gives how many there are."""
+    paths = ("crates/nocturenc/src/exported.rt", "crates/nocturenc_c/src/lib.rt")
+    (library, archive), (words, others) = map(heads, paths), map(cited, paths)
     for name in sorted(library.keys() | archive.keys()):
         if library.get(name) != archive.get(name):
             failures.append(f"{name}: nocturenc has\n  {library.get(name)}\nand nocturenc_c\n  {archive.get(name)}")
+        for word in set(re.findall(r"\w+", archive.get(name, ""))) & (words.keys() | others.keys()):
+            if words.get(word) != others.get(word):
+                failures.append(f"{name}: {word} is of {words.get(word)} in nocturenc and of {others.get(word)} in nocturenc_c")
     return len(archive)
 
 
@@ -188,7 +200,7 @@ def main():
     number = refusing = owners = 0
     for crate in libraries:
         functions = public_functions(crate)
-        can_refuse = [f for f in functions if any(f.lent) and (f.result in REFUSAL or f.result in enums)]
+        can_refuse = [f for f in functions if any(f.lent) and (f.exported or f.result in REFUSAL or f.result in enums)]
         compare(crate, "OneOutcome", functions, one_outcome)
         compare(crate, "RefusalLeaves", can_refuse, refusal_leaves)
         number, refusing, owners = number + len(functions), refusing + len(can_refuse), owners + bool(functions)

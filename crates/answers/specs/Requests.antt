@@ -46,7 +46,8 @@ module _ (words : List ℕ) (l : Layout) where
 
 -- 15: number k is not below the count; 18: transition k has not V chosen labels
 abbrev pub unless_absent : ℕ → ℕ → ℕ → List Label → Outcome → Outcome
-unless_absent k count #V key next = cond (leb count k) (refuses (refusal no_such_transition count)) (cond (eqb (length key) #V) next (refuses (refusal uneven k)))
+unless_absent k count #V key next =
+    cond (leb count k) (refuses (refusal no_such_transition count)) (cond (eqb (length key) #V) next (refuses (refusal uneven k)))
 
 abbrev pub order_outcome : List ℕ → ℕ → Layout → ℕ → Outcome
 order_outcome words room l count = unless_short room (order_in words l)

@@ -85,4 +85,5 @@ power-bit m b = by (ltb m b) (ltb b m) refl refl
 pub not-bit : (x b : ℕ) → b < 64 → bit_at (bit_xor x all_bits) b ≡ not (bit_at x b)
 unfolding bit_at
 not-bit x b h =
-    rw (xor_shr x all_bits b, xor_mod (x / 2 ^ b) (all_bits / 2 ^ b) 1, eqb-true (all_bits / 2 ^ b % 2) 1 (all-bit b h)) (single-not (x / 2 ^ b % 2) (single x b))
+    rw (xor_shr x all_bits b, xor_mod (x / 2 ^ b) (all_bits / 2 ^ b) 1, eqb-true (all_bits / 2 ^ b % 2) 1 (all-bit b h))
+    (single-not (x / 2 ^ b % 2) (single x b))

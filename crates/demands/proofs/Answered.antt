@@ -90,7 +90,8 @@ unfolding of_transition
 transition-gives what words k room l count = go (leb count k) (eqb (length (key_of words l k)) l.variables)
   where
     go : (a w : Bool)
-        → OutcomeGives TransitionGives (cond a (refuses (refusal no_such_transition count)) (cond w (unless_short room (what words l k)) (refuses (refusal uneven k))))
+        → OutcomeGives TransitionGives (cond a (refuses (refusal no_such_transition count))
+        (cond w (unless_short room (what words l k)) (refuses (refusal uneven k))))
     go true w = inr (inl refl)
     go false true = short-gives TransitionGives (inr (inr (inr refl))) room (what words l k)
     go false false = inr (inr (inl refl))

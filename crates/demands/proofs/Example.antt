@@ -30,7 +30,8 @@ counts_of_p = record { variables = 2; rows = 8; chosen = 3; transitions = 2 }
 judge-answers : JudgeAnswers words_of_p (counts_of counts_of_p)
 unfolding judge_of
 judge-answers =
-    let fits : FitCounts counts_of_p = record { variables_fit = omega arith; rows_fit = omega arith; chosen_fit = omega arith; transitions_fit = omega arith } in
+    let fits : FitCounts counts_of_p =
+    record { variables_fit = omega arith; rows_fit = omega arith; chosen_fit = omega arith; transitions_fit = omega arith } in
     let packed = read-counts counts_of_p (counts_of counts_of_p) fits refl in
     (([], tt), somewhere, subst (λ j. AnswerPacked (judge_answer j) (counts_of counts_of_p)) (sym P-is-accepted) packed)
 

@@ -1,6 +1,7 @@
--- What the four exported functions may do, by their own contracts (crates/nocturenc/src/exported.rt): of each contract `Pre` is what
--- it asks of the caller and `Post` what it allows, as the prover reads them. And what C reads from the one number that each
--- function answers (include/nocturenc.h). Every demand is stated over these.
+-- What the four functions for C may do, by their own contracts (crates/nocturenc/src/exported.rt; crate nocturenc_c exports them with
+-- the same contracts, proofs/Same.antt there): of each contract `Pre` is what it asks of the caller and `Post` what it allows, as the
+-- prover reads them. And what C reads from the one number that each function answers (include/nocturenc.h). Every demand is stated
+-- over these.
 use Rattle.std.specs.Prelude.{ℕ, ◌/◌, ◌%◌, ◌^◌, List}
 use Rattle.std.specs.Borrow.{GName, Bor, MutBor}
 use contract.Lifetimes.{Lfts}

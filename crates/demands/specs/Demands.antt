@@ -1,4 +1,4 @@
--- The mission's demands. Each is about whatever the four exported functions may answer under their own contracts (specs/Allowed.antt),
+-- The mission's demands. Each is about whatever the four functions for C may answer under their own contracts (specs/Allowed.antt),
 -- for any words, any k and any lent slice, in the terms of document 001 (crates/paper/specs) and of the words that write a table
 -- (crates/written/specs/Written.antt). proofs/Demands.antt proves `Demand1`, `Demand2` and `Demand3`.
 use Rattle.std.specs.Prelude.{ℕ, ◌+◌, ◌*◌, ◌^◌, ◌<◌, ◌≤◌, ◌≡◌, true, cond, ◌↔◌, ◌⊎◌, eqb, length, take, drop}

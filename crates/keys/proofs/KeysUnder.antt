@@ -119,8 +119,10 @@ module _ (rows marks : List ℕ) (left : ℕ) where
   unfolding joined_from numbers_from
   joined-has-each a zero i = tt
   joined-has-each a (suc m) i =
-      let b = count_at rows marks left i in
-      (omega (arith, (joined-has-both a b).1, joined-has-first (join_counts false a b) m (end_of rows i)), joined-has-each (join_counts false a b) m (end_of rows i))
+      let b = count_at rows marks left i in (
+        omega (arith, (joined-has-both a b).1, joined-has-first (join_counts false a b) m (end_of rows i)),
+        joined-has-each (join_counts false a b) m (end_of rows i),
+      )
 
   joined-one : (m i : ℕ) → m ≡ 1 → number (joined_count false (unit_count false) m i) ≡ product_of (counts_from m i)
   unfolding joined_from numbers_from
@@ -143,7 +145,8 @@ module _ {rows : List ℕ} {#N i : ℕ} (marks : List ℕ) (left : ℕ) (w : Wal
   counts_under = counts_from rows marks (left - 1) (expressions_at rows i) (first_at rows i)
 
   number-here : number (count_at rows marks left i) ≡ total (keys_at rows marks left i)
-  number-here = let e = keys-held rows marks left i in sym (ap total e ∙ held-exact (count_at rows marks left i) (subst (λ k. total k ≤ most_transitions) e few))
+  number-here =
+      let e = keys-held rows marks left i in sym (ap total e ∙ held-exact (count_at rows marks left i) (subst (λ k. total k ≤ most_transitions) e few))
 
   joined-here : (c : Bool) → eqb (kind_of rows i) 3 ≡ c
       → count_at rows marks left i ≡ joined_count rows marks (left - 1) c (unit_count c) (expressions_at rows i) (first_at rows i)

@@ -1,5 +1,5 @@
 -- A variable is frozen at a candidate exactly if the candidate's own star reads it, or the star of an exists or IF row that
--- guards it (specs/Inside/Prior.antt, `isFrozen`). By induction over the formula, with the guards around it: they read what the
+-- guards it (specs/Inside/Prior.antt, `is_frozen`). By induction over the formula, with the guards around it: they read what the
 -- stars of the guarding rows before it read, and a row passed on the way down or aside guards the candidate only if it is an
 -- exists or an IF, with the candidate behind its star.
 use Prim.Native.Nat.{ℕ, ◌+◌, ◌≤◌}

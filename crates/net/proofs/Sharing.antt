@@ -1,5 +1,5 @@
 -- Two candidates share a branch exactly if they are one, or the last row over both is a conjunction (specs/Inside/Prior.antt,
--- `shareBranchIn`). By induction over the formula: where both stand in one child of a join, the last row over both stands there
+-- `share_branch_in`). By induction over the formula: where both stand in one child of a join, the last row over both stands there
 -- too, and they share a branch as they do in that child; where they stand in two, it is the join's own row, and they share a
 -- branch exactly if the join is a conjunction, as every candidate is on some branch.
 use Prim.Native.Nat.{ℕ, ◌+◌, ◌<◌, ◌≤◌}

@@ -1,2 +1,3 @@
 pub mod OneOutcome
 pub mod RefusalLeaves
+pub mod Same

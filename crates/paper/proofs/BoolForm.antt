@@ -39,7 +39,8 @@ module _ (S T : Label → Bool) (sub : Part S T) where
 
     larger-models-any : (fs : Formulas) → models_any S fs ≡ true → models_any T fs ≡ true
     larger-models-any (only f) h = larger-models f h
-    larger-models-any (f ⨾ fs) h = or-grows (models S f) (models T f) (models_any S fs) (models_any T fs) (λ k. larger-models f k) (λ k. larger-models-any fs k) h
+    larger-models-any (f ⨾ fs) h =
+        or-grows (models S f) (models T f) (models_any S fs) (models_any T fs) (λ k. larger-models f k) (λ k. larger-models-any fs k) h
 
 -- a branch is a model
 has-alone : (b : List Label) (l : Label) → Memᴰ b ((l ∷ []) ∷ []) → has b l ≡ true

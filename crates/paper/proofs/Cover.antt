@@ -1,4 +1,4 @@
--- What a formula's branches have of one variable is what `coverOf` works out over the structure (specs/Statements.antt, 7).
+-- What a formula's branches have of one variable is what `cover_of` works out over the structure (specs/Statements.antt, 7).
 -- For any test on labels, the cover of a list of branches by the labels that pass keeps units and joins, so it carries the
 -- branches, read from the structure, to the cover read from it. The test is "chosen, and assigns v"; at a leaf it is
 -- what the fold has there, as labels are unique.
@@ -83,7 +83,8 @@ module _ (p : Label → Bool) where
 
   over-append : (bs cs : List (List Label)) → over (bs ++ cs) ≡ join_cover false (over bs) (over cs)
   over-append bs cs =
-      covers (any_append (λ b. true) bs cs) (ap not (any_append lacks bs cs) ∙ not-or (any_of lacks bs) (any_of lacks cs)) (any_append _ bs cs) (any_append _ bs cs)
+      covers (any_append (λ b. true) bs cs) (ap not (any_append lacks bs cs) ∙ not-or (any_of lacks bs) (any_of lacks cs))
+      (any_append _ bs cs) (any_append _ bs cs)
 
   over-cons : (b : List Label) (bs : List (List Label)) → over (b ∷ bs) ≡ join_cover false (one b) (over bs)
   over-cons b bs = covers refl (not-or (lacks b) (any_of lacks bs)) refl refl

@@ -90,7 +90,8 @@ module _ (#V : ℕ) (f : Formula) (A : List Label) where
     Never = (v : Variable) → v.0 < #V → (b : List Label) → Memᴰ b (branches f) → p v b ≡ false
 
     never : those (λ v. any_of (p v) (branches f)) (variables #V) ≡ [] → Never
-    never e v h b t = not_so (p v b) λ q. true≢false (sym (to-any (p v) t q) ∙ of_none (λ v. any_of (p v) (branches f)) (variables #V) e v (to-variables #V v h))
+    never e v h b t =
+        not_so (p v b) λ q. true≢false (sym (to-any (p v) t q) ∙ of_none (λ v. any_of (p v) (branches f)) (variables #V) e v (to-variables #V v h))
 
     to-never : Never → those (λ v. any_of (p v) (branches f)) (variables #V) ≡ []
     to-never n = to_none (λ v. any_of (p v) (branches f)) (variables #V) λ v t. not_so _ λ h.
@@ -117,7 +118,8 @@ module _ (#V : ℕ) (f : Formula) (A : List Label) where
   strategy-passes s fits = record {
     no_strangers = to_none (λ l. not (is_candidate f l)) A (λ l t. ap not (s.homogeneous l (mem-has t)));
     none_missed = to-never (λ v b. eqb (chosen_on f A b v) 0) (λ v h b t. ne_eqb (chosen_on f A b v) 0 (let e = s.minimal _ (b, t, v, h, refl) in omega arith));
-    none_doubled = to-never (λ v b. ltb 1 (chosen_on f A b v)) (λ v h b t. le-ltb 1 (chosen_on f A b v) (let e = s.minimal _ (b, t, v, h, refl) in omega arith));
+    none_doubled = to-never (λ v b. ltb 1 (chosen_on f A b v))
+        (λ v h b t. le-ltb 1 (chosen_on f A b v) (let e = s.minimal _ (b, t, v, h, refl) in omega arith));
     none-on-cycle = to_none (on_cycle (before f A) A) A (λ l t. not_so _ λ c. orders.no_cycle.0 s.acyclic l ((orders.tested l).0 c));
     fits = fits;
   }

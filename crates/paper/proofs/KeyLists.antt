@@ -79,7 +79,8 @@ pub length_pairs : (ks ls : List (List Label)) → length (pairs ks ls) ≡ leng
 length_pairs [] ls = simp zero-mul
 length_pairs (k ∷ ks) ls = simp (length-append, length-map, length_pairs ks ls, suc-mul) (omega arith)
 
-get_d-pairs : (ks ls : List (List Label)) (q r : ℕ) → q < length ks → r < length ls → get_or (pairs ks ls) (q * length ls + r) [] ≡ get_or ks q [] ++ get_or ls r []
+get_d-pairs : (ks ls : List (List Label)) (q r : ℕ) → q < length ks → r < length ls
+    → get_or (pairs ks ls) (q * length ls + r) [] ≡ get_or ks q [] ++ get_or ls r []
 get_d-pairs [] ls q r h k = absurd (omega arith)
 get_d-pairs (c ∷ ks) ls zero r h k =
     let e : 0 * length ls + r ≡ r = omega arith in

@@ -74,7 +74,7 @@ module _ (A b : List Label) (l : Label) where
 pub key-rises : (A : List Label) {b ls : List Label} → Sublistᴰ b ls → Rising 0 ls → Rising 0 (key A b)
 key-rises A {b} p r = rising-sub 0 (Sublistᴰ.trans (sub-those (has A) b) p) r
 
--- the branches of a list whose key is k, and their labels, as `class` and `isKept` have them of a formula's branches
+-- the branches of a list whose key is k, and their labels, as `class` and `is_kept` have them of a formula's branches
 module _ (A : List Label) (bs : List (List Label)) (k : List Label) where
   abbrev pub class_in : List (List Label)
   class_in = those (λ b. same_key (key A b) k) bs

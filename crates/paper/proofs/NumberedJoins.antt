@@ -82,7 +82,8 @@ module _ (A : List Label) where
       listed = keys-of-pairs A v bs cs level
 
       joint : (i : ℕ) (l : Label) → i < length (pairs (keys_of A bs) (keys_of A cs))
-          → kept_in A (pairs bs cs) (get_or (pairs (keys_of A bs) (keys_of A cs)) i []) l ≡ has (ka (i / length (keys_of A cs)) ++ kb (i % length (keys_of A cs))) l
+          → kept_in A (pairs bs cs) (get_or (pairs (keys_of A bs) (keys_of A cs)) i []) l
+          ≡ has (ka (i / length (keys_of A cs)) ++ kb (i % length (keys_of A cs))) l
       joint i l h =
           let (hq, hr, at) = at-pairs (keys_of A bs) (keys_of A cs) i h in
           let (x, t, p) = of-keys_of A bs (get_d-mem (keys_of A bs) _ hq) in

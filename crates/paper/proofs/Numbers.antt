@@ -101,11 +101,13 @@ module _ (A : List Label) where
         subst (λ c. Numbered A w (branches f) c (kept_at A f)) (sym (join_keys-unit false (key_count_of A f))) (numbered (suc s.label.0) w f r.1.1 level)
     numbered p w (IF l s f g) r level =
         let fs = f ⨾ only g in
-        subst (λ c. Alternatives A w (of_any fs) (join_keys false c (key_count_of A g)) (kept_all A fs) (kept_any A fs)) (sym (join_keys-unit false (key_count_of A f)))
+        subst (λ c. Alternatives A w (of_any fs) (join_keys false c (key_count_of A g)) (kept_all A fs) (kept_any A fs))
+        (sym (join_keys-unit false (key_count_of A f)))
         (next-alternative (suc s.label.0) w f (labels g) (branches g) (key_count_of A g) _ (kept_at A g) r.1.1 (branch-sub g) (a-branch g) level
         (λ q x y. numbered q w f x y) (λ q x y. one-alternative w g y (numbered q w g x y)))
 
-    each-numbered : (p w : ℕ) (fs : Formulas) → Rising p (labels_of fs) → Level A w (of_each fs) → Numbered A w (of_each fs) (count_of_all A true fs) (kept_each A fs)
+    each-numbered : (p w : ℕ) (fs : Formulas) → Rising p (labels_of fs) → Level A w (of_each fs)
+        → Numbered A w (of_each fs) (count_of_all A true fs) (kept_each A fs)
     each-numbered p w (only f) r level = numbered p w f r level
     each-numbered p w (f ⨾ fs) r level =
         let (q, le, rf, rs, below) = rising-split p (labels f) (labels_of fs) r in

@@ -1,5 +1,5 @@
 -- Two labels share a branch exactly if the structure says so (specs/Statements.antt, 7): some branch of a formula holds
--- given labels as `someBranchHolds` works it out. At a conjunction a branch is one of the first child joined to one of the rest,
+-- given labels as `some_branch_holds` works it out. At a conjunction a branch is one of the first child joined to one of the rest,
 -- and it holds the labels exactly if they part so that the first holds the one part and the second the other.
 use Prim.Native.Nat.{ℕ}
 use mathlib.Core.Path.{◌≡◌, refl, sym, subst, ap, ◌∙◌}

@@ -16,7 +16,8 @@ module _ (P : Form → Type 0) (k : ℕ) where
       go true e = so (eqb-true k n e)
       go false e = let apart = eqb-false k n e in above (omega arith)
 
-  pub by_form : (k ≡ 0 → P a_false) → (k ≡ 1 → P a_star) → (k ≡ 2 → P a_candidate) → (k ≡ 3 → P a_conjunction) → (k ≡ 4 → P a_disjunction) → (k ≡ 5 → P an_exists)
+  pub by_form : (k ≡ 0 → P a_false) → (k ≡ 1 → P a_star) → (k ≡ 2 → P a_candidate) → (k ≡ 3 → P a_conjunction)
+      → (k ≡ 4 → P a_disjunction) → (k ≡ 5 → P an_exists)
       → (k ≡ 6 → P an_if) → (6 < k → P no_form) → P (form_of k)
   unfolding form_of
   by_form a b c d e f g none =

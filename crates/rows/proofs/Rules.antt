@@ -13,7 +13,8 @@ use Rattle.paper.specs.declared.Label.{Label}
 use Rattle.paper.specs.Formula.{ℓ}
 use Rattle.paper.proofs.Bools.{and_left, and_right}
 use Rattle.entries.specs.First.{first}
-use Rattle.rows.specs.Rows.{kind_of, arg_of, end_of, from_of, Form, a_false, a_star, a_candidate, a_conjunction, a_disjunction, an_exists, an_if, no_form, form_of}
+use Rattle.rows.specs.Rows.{kind_of, arg_of, end_of, from_of, form_of}
+use Rattle.rows.specs.Rows.{Form, a_false, a_star, a_candidate, a_conjunction, a_disjunction, an_exists, an_if, no_form}
 use Rattle.rows.specs.Rows.{meets, taken_before, guarded, false_rule, star_rule, candidate_rule, join_rule, bound_rule, keeps_form, ends_within, keeps_rules}
 use Rattle.entries.specs.Entries.{falls, ascend}
 use Rattle.rows.proofs.Forms.{by_form}

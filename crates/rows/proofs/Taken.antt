@@ -34,7 +34,8 @@ takes-le k arg = pick (star-or-none k) (λ e. rw e (le_refl arg)) (λ z. omega (
 
 -- one more row
 module _ (rows : List ℕ) where
-  pub taken_next : (i : ℕ) {F : Form} {arg : ℕ} → form_of (kind_of rows i) ≡ F → arg_of rows i ≡ arg → taken_before rows (i + 1) ≡ taken_before rows i + takes F arg
+  pub taken_next : (i : ℕ) {F : Form} {arg : ℕ} → form_of (kind_of rows i) ≡ F → arg_of rows i ≡ arg
+      → taken_before rows (i + 1) ≡ taken_before rows i + takes F arg
   unfolding taken_before
   taken_next i e a = rw (add-one i, e, a)
 

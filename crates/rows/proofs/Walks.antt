@@ -12,7 +12,8 @@ use Rattle.paper.specs.Limits.{most_rows}
 use Rattle.paper.specs.declared.Label.{Label}
 use Rattle.paper.specs.Formula.{ℓ, 𝓋, Formula}
 use Rattle.paper.specs.Inside.Structure.Fold.{Fold, fold_of, fold_all}
-use Rattle.rows.specs.Rows.{kind_of, arg_of, end_of, Form, a_false, a_star, a_candidate, a_conjunction, a_disjunction, an_exists, an_if, no_form, form_of, meets}
+use Rattle.rows.specs.Rows.{kind_of, arg_of, end_of, form_of, meets}
+use Rattle.rows.specs.Rows.{Form, a_false, a_star, a_candidate, a_conjunction, a_disjunction, an_exists, an_if, no_form}
 use Rattle.rows.specs.Formula.{star_at, children_at, node_at, formula_at}
 use Rattle.rows.specs.Inside.Walk.{expressions, first_under, expressions_at, first_at, Shaped, Walkable, skeleton_at, value_at, joined_from}
 use Rattle.rows.proofs.Forms.{by_form}
@@ -78,7 +79,8 @@ module _ {A : Type 0} (r : Fold A) (rows : List ℕ) where
       (λ e some. absurd (omega arith))
 
   pub value-join : (left i : ℕ) → (left ≡ 0 → ⊥) → 0 < expressions_at rows i
-      → value_at r rows left i ≡ joined_from r rows (left - 1) (eqb (kind_of rows i) 3) (r.unit (eqb (kind_of rows i) 3)) (expressions_at rows i) (first_at rows i)
+      → value_at r rows left i ≡ joined_from r rows (left - 1) (eqb (kind_of rows i) 3) (r.unit (eqb (kind_of rows i) 3))
+      (expressions_at rows i) (first_at rows i)
   value-join left i deep some = value-node left i (kind_of rows i) deep refl ∙ joins (left - 1) i (kind_of rows i) some
 
   -- one more expression, and no more

@@ -2,7 +2,8 @@
 -- it is some formula or other: what is promised of it is promised of sound rows.
 use Rattle.std.specs.Prelude.{ℕ, zero, suc, ◌+◌, ◌-◌, List, map, take, drop}
 use Rattle.paper.specs.Formula.{ℓ, 𝓋, Star, Formula, Formulas, FALSE, test, candidate, conjunction, disjunction, exists, IF, only, ◌⨾◌}
-use Rattle.rows.specs.Rows.{kind_of, arg_of, end_of, from_of, Form, a_false, a_star, a_candidate, a_conjunction, a_disjunction, an_exists, an_if, no_form, form_of}
+use Rattle.rows.specs.Rows.{kind_of, arg_of, end_of, from_of, form_of}
+use Rattle.rows.specs.Rows.{Form, a_false, a_star, a_candidate, a_conjunction, a_disjunction, an_exists, an_if, no_form}
 
 module _ (rows reads : List ℕ) where
   -- the star of row i takes its next arg reads

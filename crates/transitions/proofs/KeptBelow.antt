@@ -69,6 +69,7 @@ kept-marked {rows} {marks} {out} {after = after} {#N} {k} p c q = record {
   bytes_are = λ A marked reads.
       let f = formula_at rows reads most_depth 0 in
       let below = all-kept (λ l. l.0 < #N) A f k (leaves-hold rows reads (λ l. l.0 < #N) (λ l h. h) most_depth 0 p.walkable) in
-      q.bytes_are A marked reads ∙ ap (marked_by (kept_at A f k)) c ∙ marked-front (kept_at A f k) #N (replicate #N 0) (drop #N out) (length-replicate #N 0) below
+      q.bytes_are A marked reads ∙ ap (marked_by (kept_at A f k)) c
+      ∙ marked-front (kept_at A f k) #N (replicate #N 0) (drop #N out) (length-replicate #N 0) below
       ∙ ap (λ xs. xs ++ drop #N out) (marked-bytes (kept_at A f k) #N);
 }

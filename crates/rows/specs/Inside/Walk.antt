@@ -4,7 +4,8 @@ use Rattle.std.specs.Prelude.{ℕ, zero, suc, ◌+◌, ◌*◌, ◌<◌, ◌≤�
 use Rattle.paper.specs.Limits.{most_rows}
 use Rattle.paper.specs.Formula.{Formula}
 use Rattle.paper.specs.Inside.Structure.Fold.{Fold, fold_of}
-use Rattle.rows.specs.Rows.{kind_of, arg_of, end_of, Form, a_false, a_star, a_candidate, a_conjunction, a_disjunction, an_exists, an_if, no_form, form_of, meets}
+use Rattle.rows.specs.Rows.{kind_of, arg_of, end_of, form_of, meets}
+use Rattle.rows.specs.Rows.{Form, a_false, a_star, a_candidate, a_conjunction, a_disjunction, an_exists, an_if, no_form}
 use Rattle.rows.specs.Formula.{formula_at}
 
 -- how many expressions stand right under a row of a form, with this arg

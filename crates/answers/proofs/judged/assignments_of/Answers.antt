@@ -19,7 +19,8 @@ refused-requires-then-assigned-l c =
 pub returns-then-assigned-l : goal.returns-then-assigned-l
 returns-then-assigned-l c =
     let e = c.requires.accepted in
-    not-whole _ _ _ _ _ _ c.if-count-k.false _ (assigned-as-key _ _ e _ c.if-count-k.false c.put_assigned-assigned.ensures) c.if-assigned-l.true c.refused-then-assigned-l.ensures
+    not-whole _ _ _ _ _ _ c.if-count-k.false _ (assigned-as-key _ _ e _ c.if-count-k.false c.put_assigned-assigned.ensures) c.if-assigned-l.true
+    c.refused-then-assigned-l.ensures
 
 pub returns : goal.returns
 returns c =
