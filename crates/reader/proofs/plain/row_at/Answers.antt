@@ -28,7 +28,7 @@ returns-in_default c = simp (← c.behind_rows-opened.ensures, c.in_default.is)
 
 pub returns-then-n-label : goal.returns-then-n-label
 unfolding row_at
-returns-then-n-label c = rw (sym c.behind_rows-opened.ensures ∙ c.in-Next.is) (simp (le-ltb _ _ c.if-n-label.true))
+returns-then-n-label c = rw (sym c.behind_rows-opened.ensures ∙ c.in-Next.is) (simp (le-ltb c.args.label c.in-Next.c.count (omega arith)))
 
 pub overflow_mul-first : goal.overflow_mul-first
 overflow_mul-first c = let t = there c.behind_rows-opened.ensures c.in-Next.is in omega arith
