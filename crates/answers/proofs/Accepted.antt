@@ -14,33 +14,30 @@ use Rattle.paper.specs.Transition.{keys}
 use Rattle.paper.proofs.Lists.{to_none}
 use Rattle.paper.proofs.Labels.{mem-has}
 use Rattle.entries.specs.Front.{in_front}
-use Rattle.table.specs.declared.Checked.TheVariants.{Sound}
 use Rattle.table.specs.Table.{checked, chosen_in}
 use Rattle.written.specs.Tables.{formula_in}
 use Rattle.written.specs.Inside.Understood.{Understood}
 use Rattle.written.proofs.Tables.{understood}
 use Rattle.strategy.specs.declared.Accepted.{Accepted}
-use Rattle.strategy.specs.declared.Judged.{Judged}
-use Rattle.strategy.specs.declared.Judged.TheVariants as judged
 use Rattle.strategy.specs.Judge.{judged_of, proposal_in, left_by, order_in, order_left, JudgedInto, AcceptedSo}
 use Rattle.strategy.proofs.Exactly.{accepted-so}
 use Rattle.strategy.proofs.Held.{parts-of, chosen-rows}
 use Rattle.strategy.proofs.Strangers.{kinds-of}
 use Rattle.strategy.proofs.Placed.{order-length}
-use Rattle.filling.specs.declared.Filled.{Filled}
 use Rattle.filling.specs.Filling.{unless_short, Fills}
 use Rattle.answers.specs.declared.Counts.{Counts}
-use Rattle.answers.specs.declared.Answer.{Answer}
-use Rattle.answers.specs.declared.Answer.TheVariants as answer
 use Rattle.answers.specs.Requests.{judge_answer, judge_of, reported, order_outcome, order_of}
 use Rattle.answers.specs.Inside.Judged.{FitCounts, Ordered}
 use Rattle.answers.proofs.Answers.{accepted-first}
+use Rattle.std.specs.Prelude.{Result, Ok, Err}
+use Rattle.filling.specs.declared.Length.{Length}
+use Rattle.paper.specs.declared.Refusal.{Refusal}
 
-module _ (words : List ℕ) (a : Accepted) (e : judged_of words ≡ judged.Accepted a) where
+module _ (words : List ℕ) (a : Accepted) (e : judged_of words ≡ Ok a) where
   known : AcceptedSo words a.layout a.transitions
   known = accepted-so words a.layout a.transitions e
 
-  pub is-sound : checked words ≡ Sound a.layout
+  pub is-sound : checked words ≡ Ok a.layout
   is-sound = known.sound
 
   pub is-understood : Understood words a.layout
@@ -71,23 +68,23 @@ module _ (words : List ℕ) (a : Accepted) (e : judged_of words ≡ judged.Accep
       ∙ length-map (chosen_in words l) ℓ ∙ is-understood.chosen_there
 
 -- the counts of a judge request
-abbrev counts_in : Answer → Counts → Counts
-counts_in (answer.Accepted c) other = c
-counts_in (answer.Refused x) other = other
+abbrev counts_in : Result Counts Refusal → Counts → Counts
+counts_in (Ok c) other = c
+counts_in (Err x) other = other
 
-pub counts-fit : (words : List ℕ) (c : Counts) → judge_of words ≡ answer.Accepted c → FitCounts c
+pub counts-fit : (words : List ℕ) (c : Counts) → judge_of words ≡ Ok c → FitCounts c
 unfolding judge_of
 counts-fit words c e = go (judged_of words) refl e
   where
-    go : (j : Judged) → judged_of words ≡ j → judge_answer j ≡ answer.Accepted c → FitCounts c
-    go (judged.Refused x) q e = let z : ◌≡◌ {A = ℕ} 0 1 = cc in absurd (omega arith)
-    go (judged.Accepted a) q e =
+    go : (j : Result Accepted Refusal) → judged_of words ≡ j → judge_answer j ≡ Ok c → FitCounts c
+    go (Err x) q e = let z : ◌≡◌ {A = ℕ} 0 1 = cc in absurd (omega arith)
+    go (Ok a) q e =
         let u = is-understood words a q in
         subst FitCounts (ap (λ x. counts_in x c) e)
         (record { variables_fit = u.at_most_variables; rows_fit = u.at_most_rows; chosen_fit = u.at_most_chosen; transitions_fit = few-transitions words a q })
 
 -- An acceptance leaves the reported order in front of the words that were lent for it.
-module _ (words order₀ order : List ℕ) (a : Accepted) (e : judged_of words ≡ judged.Accepted a)
+module _ (words order₀ order : List ℕ) (a : Accepted) (e : judged_of words ≡ Ok a)
     (stands : order ≡ in_front (order_in words a.layout) order₀) where
   many : length (order_in words a.layout) ≡ a.layout.chosen
   many = length-map (reported words a.layout) (λ x. x.0) ∙ reported-length words a e
@@ -115,8 +112,8 @@ module _ (words order₀ order : List ℕ) (a : Accepted) (e : judged_of words �
       ap length stands ∙ length_front order₀ o (length o) (sym (length-take-le (length o) order₀ (omega arith))) ∙ n
 
 -- The order that a judgement leaves.
-module _ (words order₀ order : List ℕ) (j : Judged) (i : JudgedInto words order₀ order j) (a : Accepted) (e : j ≡ judged.Accepted a) where
-  pub accepts : judged_of words ≡ judged.Accepted a
+module _ (words order₀ order : List ℕ) (j : Result Accepted Refusal) (i : JudgedInto words order₀ order j) (a : Accepted) (e : j ≡ Ok a) where
+  pub accepts : judged_of words ≡ Ok a
   accepts = sym i.answered ∙ e
 
   stands-so : order ≡ in_front (order_in words a.layout) order₀
@@ -132,6 +129,6 @@ module _ (words order₀ order : List ℕ) (j : Judged) (i : JudgedInto words or
   pub order-as-long : length order₀ ≡ slots → length order ≡ slots
   order-as-long = front-as-long words order₀ order a accepts stands-so
 
-  pub order-filled : {lent left : List ℕ} {r : Filled} → Fills (unless_short (length lent) (take a.layout.chosen order)) lent left r
+  pub order-filled : {lent left : List ℕ} {r : Result Length Refusal} → Fills (unless_short (length lent) (take a.layout.chosen order)) lent left r
       → Fills (order_of words (length lent)) lent left r
   order-filled {lent} f = accepted-first words j i.answered a e (order_outcome words (length lent)) (rw (← order-stands.is_in_front) f)

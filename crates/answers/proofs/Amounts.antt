@@ -8,12 +8,11 @@ use lib.Dec.{eqb, ltb, leb}
 use lib.ListN.{length, length-map}
 use borrow.Author.Tests.{leb-false}
 use Rattle.paper.specs.Limits.{most_rows}
-use Rattle.paper.specs.Refusals.{refusal, no_such_transition, out_too_short, uneven}
+use Rattle.paper.specs.declared.refusals.Fault.TheVariants.{NoSuchTransition, OutTooShort, Uneven}
+use Rattle.paper.specs.Refusals.{refusal}
 use Rattle.paper.specs.declared.Label.{Label}
 use Rattle.table.specs.declared.Layout.{Layout}
 use Rattle.strategy.specs.declared.Accepted.{Accepted}
-use Rattle.strategy.specs.declared.Judged.{Judged}
-use Rattle.strategy.specs.declared.Judged.TheVariants as judged
 use Rattle.strategy.specs.Judge.{judged_of}
 use Rattle.filling.specs.Filling.{Outcome, refuses, fills, unless_short, filled_of}
 use Rattle.answers.specs.Requests.{reported, key_of, kept_marks, assigned_of, unless_absent, order_outcome, of_transition}
@@ -22,34 +21,36 @@ use Rattle.answers.specs.Requests.{transition_outcome, assignments_outcome, outc
 use Rattle.answers.specs.Inside.Judged.{AcceptedAs}
 use Rattle.answers.proofs.Accepted.{is-understood}
 use Rattle.answers.proofs.Keeping.{amounts}
+use Rattle.std.specs.Prelude.{Result, Ok, Err}
+use Rattle.paper.specs.declared.Refusal.{Refusal}
 
 -- what is filled is as long as what is asked for
 fit-short : (room : ℕ) (ws : List ℕ) → length ws ≤ most_rows → FitFilled (filled_of (unless_short room ws))
 fit-short room ws h = go (ltb room (length ws))
   where
-    go : (t : Bool) → FitFilled (filled_of (cond t (refuses (refusal out_too_short (length ws))) (fills ws)))
+    go : (t : Bool) → FitFilled (filled_of (cond t (refuses (refusal OutTooShort (length ws))) (fills ws)))
     go true = tt
     go false = h
 
-fit-absent : (k count #V : ℕ) (key : List Label) (next : Outcome) → (k < count → FitFilled (filled_of next))
+fit-absent : (k count #V : ℕ) (key : List Label) (next : Outcome ℕ) → (k < count → FitFilled (filled_of next))
     → FitFilled (filled_of (unless_absent k count #V key next))
 fit-absent k count #V key next fits = go (leb count k) refl (eqb (length key) #V)
   where
     go : (t : Bool) → leb count k ≡ t → (w : Bool)
-        → FitFilled (filled_of (cond t (refuses (refusal no_such_transition count)) (cond w next (refuses (refusal uneven k)))))
+        → FitFilled (filled_of (cond t (refuses (refusal NoSuchTransition count)) (cond w next (refuses (refusal Uneven k)))))
     go true e w = tt
     go false e true = let h = leb-false count k e in fits (omega arith)
     go false e false = tt
 
 module _ (words : List ℕ) where
-  fit-accepted : (next : Layout → ℕ → Outcome) → ((a : Accepted) → AcceptedAs words a → FitFilled (filled_of (next a.layout a.transitions)))
+  fit-accepted : (next : Layout → ℕ → Outcome ℕ) → ((a : Accepted) → AcceptedAs words a → FitFilled (filled_of (next a.layout a.transitions)))
       → FitFilled (filled_of (outcome_of (judged_of words) next))
   unfolding outcome_of
   fit-accepted next fits = go (judged_of words) refl
     where
-      go : (j : Judged) → judged_of words ≡ j → FitFilled (filled_of (outcome_of j next))
-      go (judged.Refused r) e = tt
-      go (judged.Accepted a) e = fits a e
+      go : (j : Result Accepted Refusal) → judged_of words ≡ j → FitFilled (filled_of (outcome_of j next))
+      go (Err r) e = tt
+      go (Ok a) e = fits a e
 
   pub order-fits : (room : ℕ) → FitFilled (filled_of (order_of words room))
   order-fits room =

@@ -1,7 +1,7 @@
 -- A refusal writes nothing: for each public function that lends and can refuse, whatever refusal its contract allows, every lent word
 -- or byte is left as it was.
 use Rattle.paper.specs.Outcome.{RefusalLeaves}
-use Rattle.filling.specs.Filling.{IsRefusal}
+use Rattle.paper.specs.Refusals.{IsRefusal}
 use Rattle.filling.proofs.RefusalLeaves.{as_it_was}
 use Rattle.answers.proofs.judged as judged
 

@@ -7,9 +7,10 @@ ghost use Rattle.answers.specs.Requests.{transition_outcome, assignments_outcome
 ghost use Rattle.answers.specs.Inside.Judged.{AcceptedAs, Ordered, Kept};
 
 use crate::numbered::{basis_of, put_assigned, put_kept};
-use filling::{Filled, fill_bytes, fill_words, refused};
+use filling::{Length, fill};
+use paper::Refusal;
 use paper::limits::{MOST_ROWS, SLOTS};
-use paper::refusals::{NO_SUCH_TRANSITION, UNEVEN};
+use paper::refusals::{Fault, refusal_at};
 use strategy::Accepted;
 use transitions::assigned::count_kept;
 
@@ -28,7 +29,7 @@ fn keep(words: &[u16], a: Accepted, k: usize, kept: &mut [u8]) -> usize
 }
 
 // The kept labels of transition k, in the first N bytes of `out`.
-pub fn transition_of(words: &[u16], a: Accepted, k: usize, out: &mut [u8]) -> Filled
+pub fn transition_of(words: &[u16], a: Accepted, k: usize, out: &mut [u8]) -> Result<Length, Refusal>
     requires { AcceptedAs words.now a }
     ensures { Fills (transition_outcome words.now k (length out.old) a.layout a.transitions)
         out.old out.new result }
@@ -36,14 +37,14 @@ pub fn transition_of(words: &[u16], a: Accepted, k: usize, out: &mut [u8]) -> Fi
     let l = a.layout;
     let count = a.transitions;
     if count <= k {
-        return refused(NO_SUCH_TRANSITION, count);
+        return Err(refusal_at(Fault::NoSuchTransition, count));
     }
     let mut kept = [0u8; MOST_ROWS];
     let chosen = keep(words, a, k, &mut kept);
     if chosen != l.variables {
-        return refused(UNEVEN, k);
+        return Err(refusal_at(Fault::Uneven, k));
     }
-    fill_bytes(&kept, l.rows, out)
+    fill(&kept[..l.rows], out)
 }
 
 // The chosen labels of transition k in reported order, V words, at the front of `out`; `order` begins with the reported order.
@@ -53,7 +54,7 @@ pub fn assignments_of(
     order: &[u16],
     k: usize,
     out: &mut [u16],
-) -> Filled
+) -> Result<Length, Refusal>
     requires { Ordered words.now a order.now }
     ensures { Fills (assignments_outcome words.now k (length out.old) a.layout a.transitions)
         out.old out.new result }
@@ -61,7 +62,7 @@ pub fn assignments_of(
     let l = a.layout;
     let count = a.transitions;
     if count <= k {
-        return refused(NO_SUCH_TRANSITION, count);
+        return Err(refusal_at(Fault::NoSuchTransition, count));
     }
     let basis = basis_of(words, a);
     let marks = basis.marks;
@@ -78,7 +79,7 @@ pub fn assignments_of(
         &mut labels,
     );
     if assigned != l.variables {
-        return refused(UNEVEN, k);
+        return Err(refusal_at(Fault::Uneven, k));
     }
-    fill_words(&labels, assigned, out)
+    fill(&labels[..assigned], out)
 }

@@ -5,7 +5,10 @@
 pub mod judged; // transitions and assignments as requests, for a caller that has judged
 pub mod numbered; // transition k by itself: its bytes, and its chosen labels in order
 
-use paper::Refusal;
+ghost use Rattle.std.specs.Prelude.{◌≡◌};
+ghost use Rattle.answers.specs.Requests.{as_counts};
+
+use strategy::Accepted;
 
 // What an accepted judgement counts: V, N, S and the transitions.
 #[derive(Clone, Copy)]
@@ -16,9 +19,15 @@ pub struct Counts {
     pub transitions: usize,
 }
 
-// The answer to a judge request.
-#[derive(Clone, Copy)]
-pub enum Answer {
-    Accepted(Counts),
-    Refused(Refusal),
+impl From<Accepted> for Counts {
+    ghost from_gives = { λ a c. c ≡ as_counts a };
+
+    fn from(a: Accepted) -> Counts {
+        Counts {
+            variables: a.layout.variables,
+            rows: a.layout.rows,
+            chosen: a.layout.chosen,
+            transitions: a.transitions,
+        }
+    }
 }

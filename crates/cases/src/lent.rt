@@ -3,7 +3,8 @@
 ghost use Rattle.std.specs.Prelude.{◌≡◌, ◌≤◌, ◌<◌, length};
 
 use crate::write;
-use filling::Filled;
+use filling::Length;
+use paper::Refusal;
 
 // The longest slice that is lent.
 pub const ROOM: usize = 4096;
@@ -69,20 +70,20 @@ fn widened(bytes: &[u8; 4104]) -> [u16; 4104] {
 }
 
 // Prints an answer, and the words by runs.
-fn show(rt: &impl Print, answer: Filled, words: &[u16]) {
+fn show(rt: &impl Print, answer: Result<Length, Refusal>, words: &[u16]) {
     filled(rt, answer);
     write::text(rt, b" :");
     runs(rt, words);
 }
 
 // How many were filled, or the refusal.
-fn filled(rt: &impl Print, answer: Filled) {
+fn filled(rt: &impl Print, answer: Result<Length, Refusal>) {
     match answer {
-        Filled::Done(n) => {
+        Ok(n) => {
             write::text(rt, b" filled");
             write::number(rt, n.count);
         }
-        Filled::Refused(r) => write::refusal(rt, r),
+        Err(r) => write::refusal(rt, r),
     }
 }
 

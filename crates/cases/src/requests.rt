@@ -2,9 +2,7 @@
 use crate::heading::Heading;
 use crate::scan::{GAP, find, is_word};
 use crate::{lent, write};
-use answers::Answer;
-use reader::Found;
-use table::Checked;
+use reader::Row;
 
 // The requests, by their numbers in the list of names.
 const CHECK: usize = 0;
@@ -67,11 +65,11 @@ pub fn run(rt: &impl Print, request: usize, first: usize, second: usize, words: 
 fn check(rt: &impl Print, words: &[u16]) {
     let found = table::check(words);
     match found {
-        Checked::Sound(l) => {
+        Ok(l) => {
             write::text(rt, b" sound");
             write::four(rt, l.variables, l.reads, l.rows, l.chosen);
         }
-        Checked::Refused(r) => write::refusal(rt, r),
+        Err(r) => write::refusal(rt, r),
     }
 }
 
@@ -79,18 +77,18 @@ fn check(rt: &impl Print, words: &[u16]) {
 fn judge(rt: &impl Print, words: &[u16]) {
     let found = nocturenc::requests::judge(words);
     match found {
-        Answer::Accepted(c) => {
+        Ok(c) => {
             write::text(rt, b" accepted");
             write::four(rt, c.variables, c.rows, c.chosen, c.transitions);
         }
-        Answer::Refused(r) => write::refusal(rt, r),
+        Err(r) => write::refusal(rt, r),
     }
 }
 
 // What the table reader finds.
-fn row(rt: &impl Print, found: Found) {
+fn row(rt: &impl Print, found: Option<Row>) {
     match found {
-        Found::Here(r) => {
+        Some(r) => {
             write::text(rt, b" row");
             write::word(rt, r.label.0);
             write::word(rt, r.kind);
@@ -98,6 +96,6 @@ fn row(rt: &impl Print, found: Found) {
             write::word(rt, r.end.0);
             write::word(rt, r.from);
         }
-        Found::Absent => write::text(rt, b" absent"),
+        None => write::text(rt, b" absent"),
     }
 }

@@ -27,7 +27,7 @@ pub fn four(rt: &impl Print, a: usize, b: usize, c: usize, d: usize) {
 
 pub fn refusal(rt: &impl Print, r: Refusal) {
     text(rt, b" refused");
-    number(rt, r.number as usize);
+    number(rt, usize::from(u8::from(r.fault)));
     number(rt, r.place as usize);
 }
 

@@ -17,6 +17,7 @@ use Rattle.paper.specs.declared.Label.{Label}
 use Rattle.paper.specs.declared.Variable.{Variable}
 use Rattle.paper.specs.Lists.{those}
 use Rattle.paper.specs.Formula.{𝓋, has, alike, labels, WellFormed, Formula}
+use Rattle.paper.specs.declared.refusals.Fault.TheVariants.{VariableMissed, VariableTwice}
 use Rattle.paper.specs.Judgement.{Judgement, refuse, variables, missed, doubled}
 use Rattle.paper.specs.Inside.Structure.Fold.{fold_of}
 use Rattle.paper.specs.Inside.Structure.Cover.{leaf_cover, unit_cover, join_cover, cover_fold, cover_of}
@@ -136,7 +137,7 @@ by-covered [] (y ∷ ys) = (λ e. (refl, cc), λ (d, e). cc)
 by-covered (x ∷ xs) ys = (λ e. (cc, cc), λ (d, e). cc)
 
 refuse-by : (xs ys : List Variable) (next : Judgement)
-    → refuse 11 (map (λ v. v.0) xs) (refuse 12 (map (λ v. v.0) ys) next) ≡ judgement_of (covering_by xs ys) next
+    → refuse VariableMissed (map (λ v. v.0) xs) (refuse VariableTwice (map (λ v. v.0) ys) next) ≡ judgement_of (covering_by xs ys) next
 refuse-by [] [] next = refl
 refuse-by [] (y ∷ ys) next = refl
 refuse-by (x ∷ xs) ys next = refl
@@ -197,5 +198,5 @@ module _ (rows reads : List ℕ) {f : Formula} (written : f ≡ formula_at rows 
 
     -- refusals 11 and 12 of the judgement are those of the covering
     pub covering-says : (next : Judgement)
-        → refuse 11 (map (λ v. v.0) (missed #V f A)) (refuse 12 (map (λ v. v.0) (doubled #V f A)) next) ≡ judgement_of (covering_of rows marks #V) next
+        → refuse VariableMissed (map (λ v. v.0) (missed #V f A)) (refuse VariableTwice (map (λ v. v.0) (doubled #V f A)) next) ≡ judgement_of (covering_of rows marks #V) next
     covering-says next = rw covering-is (refuse-by (missed #V f A) (doubled #V f A) next)

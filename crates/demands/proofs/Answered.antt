@@ -9,10 +9,10 @@ use mathlib.Core.List.{List}
 use lib.Dec.{eqb, ltb, leb}
 use lib.ListN.{length}
 use Rattle.paper.specs.declared.Refusal.{Refusal}
-use Rattle.paper.specs.Refusals.{refusal, no_such_transition, out_too_short, uneven}
+use Rattle.paper.specs.declared.refusals.Fault.TheVariants.{NoSuchTransition, OutTooShort, Uneven}
+use Rattle.paper.specs.Refusals.{refusal}
+use Rattle.paper.specs.Refusals.{fault_number}
 use Rattle.table.specs.declared.Layout.{Layout}
-use Rattle.strategy.specs.declared.Judged.{Judged}
-use Rattle.strategy.specs.declared.Judged.TheVariants as judged
 use Rattle.strategy.specs.Judge.{judged_of, order_in}
 use Rattle.filling.specs.Filling.{Outcome, refuses, fills, unless_short}
 use Rattle.answers.specs.Requests.{judge_of, judge_answer, key_of, kept_marks, assigned_of, outcome_of, of_transition, order_outcome}
@@ -21,54 +21,56 @@ use Rattle.demands.specs.Allowed.{Request, OrderAnswers, TransitionAnswers, Assi
 use Rattle.demands.specs.Demands.{JudgeGives, OrderGives, TransitionGives, IsAnswer, Answered, Demand1}
 use Rattle.demands.proofs.Contracts.{judge-allows, order-allows, transition-allows, assignments-allow, asks_nothing}
 use Rattle.demands.proofs.RefusalNumbers.{AnswerGives, judged-gives}
+use Rattle.std.specs.Prelude.{Result, Ok, Err}
+use Rattle.strategy.specs.declared.Accepted.{Accepted}
 
 -- a refusal that C reads
-is-refusal : (Gives : ℕ → Type 0) (x : Refusal) (r : ℕ) → ReadRefusal x r → Gives x.number → IsAnswer Gives r
+is-refusal : (Gives : ℕ → Type 0) (x : Refusal) (r : ℕ) → ReadRefusal x r → Gives (fault_number x.fault) → IsAnswer Gives r
 is-refusal Gives x r read g = inr (subst Gives (sym read.number_is) g, let h = read.between in omega arith)
 
 judge-is-answer : (words : List ℕ) (r : ℕ) → AnswerPacked (judge_of words) r → IsAnswer JudgeGives r
 unfolding judge_of
 judge-is-answer words r p = go (judged_of words) (judged-gives words) p
   where
-    go : (j : Judged) → AnswerGives j → AnswerPacked (judge_answer j) r → IsAnswer JudgeGives r
-    go (judged.Accepted a) g p = inl p.read_so.no_refusal
-    go (judged.Refused x) g p = is-refusal JudgeGives x r p.read_so g
+    go : (j : Result Accepted Refusal) → AnswerGives j → AnswerPacked (judge_answer j) r → IsAnswer JudgeGives r
+    go (Ok a) g p = inl p.read_so.no_refusal
+    go (Err x) g p = is-refusal JudgeGives x r p.read_so g
 
 -- an outcome that fills, or refuses with a number that the request gives
-abbrev OutcomeGives : (ℕ → Type 0) → Outcome → Type 0
-OutcomeGives Gives (refuses x) = Gives x.number
+abbrev OutcomeGives : (ℕ → Type 0) → Outcome ℕ → Type 0
+OutcomeGives Gives (refuses x) = Gives (fault_number x.fault)
 OutcomeGives Gives (fills ws) = Unit {0}
 
 module _ {lent left : List ℕ} {r : ℕ} where
-  fill-is-answer : (Gives : ℕ → Type 0) (o : Outcome) → OutcomeGives Gives o → FillsPacked o lent left r → IsAnswer Gives r
+  fill-is-answer : (Gives : ℕ → Type 0) (o : Outcome ℕ) → OutcomeGives Gives o → FillsPacked o lent left r → IsAnswer Gives r
   fill-is-answer Gives (refuses x) g f = is-refusal Gives x r f.read_so g
   fill-is-answer Gives (fills ws) g f = inl f.read_so.no_refusal
 
-  nothing_written : (o : Outcome) → FillsPacked o lent left r → 1 ≤ refusal_number r → left ≡ lent
+  nothing_written : (o : Outcome ℕ) → FillsPacked o lent left r → 1 ≤ refusal_number r → left ≡ lent
   nothing_written (refuses x) f h = f.left_so
   nothing_written (fills ws) f h = let z = f.read_so.no_refusal in absurd (omega arith)
 
-  refused-first : (words : List ℕ) (j : ℕ) → AnswerPacked (judge_of words) j → 1 ≤ refusal_number j → (next : Layout → ℕ → Outcome)
+  refused-first : (words : List ℕ) (j : ℕ) → AnswerPacked (judge_of words) j → 1 ≤ refusal_number j → (next : Layout → ℕ → Outcome ℕ)
       → FillsPacked (outcome_of (judged_of words) next) lent left r → r ≡ j
   unfolding judge_of outcome_of packed_answer packed_filled
   refused-first words j p h next f = go (judged_of words) p f
     where
-      go : (v : Judged) → AnswerPacked (judge_answer v) j → FillsPacked (outcome_of v next) lent left r → r ≡ j
-      go (judged.Accepted a) p f = let z = p.read_so.no_refusal in absurd (omega arith)
-      go (judged.Refused x) p f = f.answered ∙ sym p.answered
+      go : (v : Result Accepted Refusal) → AnswerPacked (judge_answer v) j → FillsPacked (outcome_of v next) lent left r → r ≡ j
+      go (Ok a) p f = let z = p.read_so.no_refusal in absurd (omega arith)
+      go (Err x) p f = f.answered ∙ sym p.answered
 
 module _ (words : List ℕ) (Gives : ℕ → Type 0) (more : (n : ℕ) → JudgeGives n → Gives n) where
-  judged-outcome : (next : Layout → ℕ → Outcome) → ((l : Layout) (count : ℕ) → OutcomeGives Gives (next l count))
+  judged-outcome : (next : Layout → ℕ → Outcome ℕ) → ((l : Layout) (count : ℕ) → OutcomeGives Gives (next l count))
       → OutcomeGives Gives (outcome_of (judged_of words) next)
   unfolding outcome_of
   judged-outcome next after = go (judged_of words) (judged-gives words)
     where
-      go : (j : Judged) → AnswerGives j → OutcomeGives Gives (outcome_of j next)
-      go (judged.Refused x) g = more x.number g
-      go (judged.Accepted a) g = after a.layout a.transitions
+      go : (j : Result Accepted Refusal) → AnswerGives j → OutcomeGives Gives (outcome_of j next)
+      go (Err x) g = more (fault_number x.fault) g
+      go (Ok a) g = after a.layout a.transitions
 
   -- a request whose outcome is the judgement's refusal, or what follows it
-  answered : (next : ℕ → Layout → ℕ → Outcome) → ((room : ℕ) (l : Layout) (count : ℕ) → OutcomeGives Gives (next room l count)) → (request : Request)
+  answered : (next : ℕ → Layout → ℕ → Outcome ℕ) → ((room : ℕ) (l : Layout) (count : ℕ) → OutcomeGives Gives (next room l count)) → (request : Request)
       → ((lent left : List ℕ) (r : ℕ) → request lent left r → FillsPacked (outcome_of (judged_of words) (next (length lent))) lent left r)
       → Answered words Gives request
   answered next after request allows = record {
@@ -80,7 +82,7 @@ module _ (words : List ℕ) (Gives : ℕ → Type 0) (more : (n : ℕ) → Judge
 short-gives : (Gives : ℕ → Type 0) → Gives 16 → (room : ℕ) (ws : List ℕ) → OutcomeGives Gives (unless_short room ws)
 short-gives Gives g room ws = go (ltb room (length ws))
   where
-    go : (b : Bool) → OutcomeGives Gives (cond b (refuses (refusal out_too_short (length ws))) (fills ws))
+    go : (b : Bool) → OutcomeGives Gives (cond b (refuses (refusal OutTooShort (length ws))) (fills ws))
     go true = g
     go false = tt
 
@@ -90,8 +92,8 @@ unfolding of_transition
 transition-gives what words k room l count = go (leb count k) (eqb (length (key_of words l k)) l.variables)
   where
     go : (a w : Bool)
-        → OutcomeGives TransitionGives (cond a (refuses (refusal no_such_transition count))
-        (cond w (unless_short room (what words l k)) (refuses (refusal uneven k))))
+        → OutcomeGives TransitionGives (cond a (refuses (refusal NoSuchTransition count))
+        (cond w (unless_short room (what words l k)) (refuses (refusal Uneven k))))
     go true w = inr (inl refl)
     go false true = short-gives TransitionGives (inr (inr (inr refl))) room (what words l k)
     go false false = inr (inr (inl refl))

@@ -6,6 +6,7 @@ use mathlib.Core.Path.{◌≡◌, refl, sym, subst, ◌∙◌}
 use mathlib.Core.Bool.{true}
 use mathlib.Core.List.{List, map, Memᴰ}
 use lib.ListN.{length, length-map}
+use Rattle.paper.specs.declared.refusals.Fault.TheVariants.{NoSuchTransition, OutTooShort}
 use Rattle.paper.specs.declared.Label.{Label}
 use Rattle.paper.specs.Lists.{those}
 use Rattle.paper.specs.Formula.{ℓ, has, Formula}
@@ -27,7 +28,6 @@ use Rattle.written.specs.Tables.{table_in}
 use Rattle.written.specs.Inside.Understood.{Understood}
 use Rattle.written.proofs.Words.{map_back}
 use Rattle.strategy.specs.declared.Accepted.{Accepted}
-use Rattle.strategy.specs.declared.Judged.TheVariants as judged
 use Rattle.strategy.specs.Judge.{judged_of}
 use Rattle.answers.specs.Requests.{judge_of, order_of, assigned_of, assignments_of}
 use Rattle.answers.proofs.Accepted.{is-understood, is-strategy, count_is}
@@ -38,12 +38,13 @@ use Rattle.demands.specs.Demands.{Counts, key_of, reported, IsAssignments, Carri
 use Rattle.demands.proofs.Contracts.{order-allows, assignments-allow}
 use Rattle.demands.proofs.Judged.{counts-read}
 use Rattle.demands.proofs.Filled.{fills-front, refuses-so, order-given, order-short, transition-given, transition-short, transition-absent}
+use Rattle.std.specs.Prelude.{Ok}
 
 -- labels written as words and read again
 read_back : (ls : List Label) → map ℓ (map (λ (i : Label). i.0) ls) ≡ ls
 read_back = map_back (λ (i : Label). i.0) ℓ (λ i. refl)
 
-module _ (words : List ℕ) (a : Accepted) (e : judged_of words ≡ judged.Accepted a) (r : ℕ) (p : AnswerPacked (judge_of words) r) where
+module _ (words : List ℕ) (a : Accepted) (e : judged_of words ≡ Ok a) (r : ℕ) (p : AnswerPacked (judge_of words) r) where
   abbrev t : Table
   t = table_in words a.layout
 
@@ -106,7 +107,7 @@ module _ (words : List ℕ) (a : Accepted) (e : judged_of words ≡ judged.Accep
         fills-front (order_of words (length lent)) (order-allows words q) order (chosen_count r) (λ ws. map ℓ ws ≡ reported t)
         (order-given words a e (length lent) (omega (arith, ordered-many))) ordered-many (read_back (reported t));
     order_too_short = λ lent room left s q.
-        refuses-so (order_of words (length lent)) (order-allows words q) 16 (length order) (chosen_count r)
+        refuses-so (order_of words (length lent)) (order-allows words q) OutTooShort (length order) (chosen_count r)
         (order-short words a e (length lent) (omega (arith, ordered-many))) ordered-many;
     assigned = λ k h lent room left s q.
         let below : k < a.transitions = omega (arith, many) in
@@ -114,10 +115,10 @@ module _ (words : List ℕ) (a : Accepted) (e : judged_of words ≡ judged.Accep
         fills-front (assignments_of words k (length lent)) (assignments-allow words k q) (assigned_of words a.layout k) (variable_count r)
         (IsAssignments t k) given (assigned-many k below) (is-assignments k below);
     no_more = λ k h lent left s q.
-        refuses-so (assignments_of words k (length lent)) (assignments-allow words k q) 15 a.transitions (transition_count r)
+        refuses-so (assignments_of words k (length lent)) (assignments-allow words k q) NoSuchTransition a.transitions (transition_count r)
         (transition-absent words a e assigned_of k (length lent) (omega (arith, many))) (sym many);
     too_short = λ k h lent room left s q.
         let below : k < a.transitions = omega (arith, many) in
-        refuses-so (assignments_of words k (length lent)) (assignments-allow words k q) 16 (length (assigned_of words a.layout k)) (variable_count r)
+        refuses-so (assignments_of words k (length lent)) (assignments-allow words k q) OutTooShort (length (assigned_of words a.layout k)) (variable_count r)
         (transition-short words a e assigned_of k (length lent) below (omega (arith, assigned-many k below))) (assigned-many k below);
   }

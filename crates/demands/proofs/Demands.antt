@@ -6,7 +6,6 @@ use mathlib.Core.List.{List}
 use Rattle.written.specs.Written.{Table}
 use Rattle.written.specs.Tables.{table_in}
 use Rattle.strategy.specs.declared.Accepted as Verdict
-use Rattle.strategy.specs.declared.Judged.TheVariants as judged
 use Rattle.strategy.specs.Judge.{judged_of}
 use Rattle.answers.specs.Requests.{judge_of}
 use Rattle.nocturenc.specs.Packed.{AnswerPacked}
@@ -16,9 +15,10 @@ use Rattle.demands.proofs.Answered as Answered
 use Rattle.demands.proofs.Judged.{is-accepted, table_is, judged-exactly}
 use Rattle.demands.proofs.Listed as Listed
 use Rattle.demands.proofs.Carried as Carried
+use Rattle.std.specs.Prelude.{Ok}
 
 of-every-table : (Holds : List ℕ → ℕ → Table → Type 0)
-    → ((words : List ℕ) (a : Verdict.Accepted) (e : judged_of words ≡ judged.Accepted a) (r : ℕ) → AnswerPacked (judge_of words) r
+    → ((words : List ℕ) (a : Verdict.Accepted) (e : judged_of words ≡ Ok a) (r : ℕ) → AnswerPacked (judge_of words) r
     → Holds words r (table_in words a.layout))
     → (words : List ℕ) (r : ℕ) (t : Table) → Accepted words r t → Holds words r t
 of-every-table Holds so words r t h =

@@ -40,7 +40,7 @@ pub listing-accepted : Accepted words_of_p (counts_of counts_of_p) table_of_p
 listing-accepted = record { answered = judge-answers; accepted = omega arith; within = P-is-within; writes = sym P-is-written }
 
 -- an outcome that fills, packed
-filling : (o : Outcome) (ws lent : List ℕ) → length ws ≤ 4096 → o ≡ fills ws → FillsPacked o lent (in_front ws lent) (length ws)
+filling : (o : Outcome ℕ) (ws lent : List ℕ) → length ws ≤ 4096 → o ≡ fills ws → FillsPacked o lent (in_front ws lent) (length ws)
 filling o ws lent few e =
     let (answered, read) = read-filled (record { count = length ws }) few in
     subst (λ x. FillsPacked x lent (in_front ws lent) (length ws)) (sym e) (record { answered = answered; read_so = read; left_so = refl })

@@ -10,15 +10,11 @@ use Rattle.paper.specs.Formula.{ℓ}
 use Rattle.paper.specs.Strategy.{Strategy}
 use Rattle.paper.specs.Transition.{keys}
 use Rattle.table.specs.declared.Layout.{Layout}
-use Rattle.table.specs.declared.Checked.{Checked}
-use Rattle.table.specs.declared.Checked.TheVariants.{Sound, Refused}
 use Rattle.table.specs.Table.{chosen_in}
 use Rattle.written.specs.Written.{Table, Within, written}
 use Rattle.written.specs.Tables.{table_in, layout_of}
 use Rattle.written.proofs.Tables.{one_table}
 use Rattle.strategy.specs.declared.Accepted.{Accepted}
-use Rattle.strategy.specs.declared.Judged.{Judged}
-use Rattle.strategy.specs.declared.Judged.TheVariants as judged
 use Rattle.strategy.specs.Judge.{judged_of, AcceptedSo}
 use Rattle.strategy.proofs.Exactly.{accepted-so, accepted-exactly}
 use Rattle.answers.specs.Requests.{judge_of, judge_answer}
@@ -27,21 +23,23 @@ use Rattle.nocturenc.specs.Packed.{AnswerPacked}
 use Rattle.demands.specs.Allowed.{refusal_number}
 use Rattle.demands.specs.Demands.{JudgeGives, Acceptable, Counts, JudgedExactly}
 use Rattle.demands.proofs.RefusalNumbers.{refused-number}
+use Rattle.std.specs.Prelude.{Result, Ok, Err}
+use Rattle.paper.specs.declared.Refusal.{Refusal}
 
 -- what an accepted answer says of the judgement
-pub is-accepted : (words : List ℕ) (r : ℕ) → AnswerPacked (judge_of words) r → refusal_number r ≡ 0 → (a : Accepted) × (judged_of words ≡ judged.Accepted a)
+pub is-accepted : (words : List ℕ) (r : ℕ) → AnswerPacked (judge_of words) r → refusal_number r ≡ 0 → (a : Accepted) × (judged_of words ≡ Ok a)
 unfolding judge_of
 is-accepted words r p z = go (judged_of words) refl p
   where
-    go : (j : Judged) → judged_of words ≡ j → AnswerPacked (judge_answer j) r → (a : Accepted) × (judged_of words ≡ judged.Accepted a)
-    go (judged.Accepted a) e p = (a, e)
-    go (judged.Refused x) e p = absurd (false≢true (subst JudgeGives (sym p.read_so.number_is ∙ z) (refused-number words x e)))
+    go : (j : Result Accepted Refusal) → judged_of words ≡ j → AnswerPacked (judge_answer j) r → (a : Accepted) × (judged_of words ≡ Ok a)
+    go (Ok a) e p = (a, e)
+    go (Err x) e p = absurd (false≢true (subst JudgeGives (sym p.read_so.number_is ∙ z) (refused-number words x e)))
 
-abbrev layout_or : Checked → Layout → Layout
-layout_or (Sound l) other = l
-layout_or (Refused x) other = other
+abbrev layout_or : Result Layout Refusal → Layout → Layout
+layout_or (Ok l) other = l
+layout_or (Err x) other = other
 
-module _ (words : List ℕ) (a : Accepted) (e : judged_of words ≡ judged.Accepted a) where
+module _ (words : List ℕ) (a : Accepted) (e : judged_of words ≡ Ok a) where
   -- the table that accepted words write is the one read from them
   pub table_is : (t : Table) → Within t → words ≡ written t → table_in words a.layout ≡ t
   table_is t within writes =
@@ -58,7 +56,7 @@ module _ (words : List ℕ) (a : Accepted) (e : judged_of words ≡ judged.Accep
       }
 
   module _ (r : ℕ) (p : AnswerPacked (judge_of words) r) where
-    accepting : AnswerPacked (judge_answer (judged.Accepted a)) r
+    accepting : AnswerPacked (judge_answer (Ok a)) r
     unfolding judge_of
     accepting = subst (λ j. AnswerPacked (judge_answer j) r) e p
 
@@ -77,7 +75,7 @@ module _ (words : List ℕ) (a : Accepted) (e : judged_of words ≡ judged.Accep
         }
 
 -- words that write a table that is to be accepted are accepted
-accepts : (words : List ℕ) (t : Table) → Acceptable words t → (a : Accepted) × (judged_of words ≡ judged.Accepted a)
+accepts : (words : List ℕ) (t : Table) → Acceptable words t → (a : Accepted) × (judged_of words ≡ Ok a)
 accepts words t h =
     let (sound, read) = one_table words t h.within h.writes in
     let so : AcceptedSo words (layout_of t) _ = record {

@@ -8,6 +8,7 @@ use mathlib.Core.List.Memᴰ
 use mathlib.Core.List.{List, Memᴰ}
 use lib.Dec.{eqb}
 use lib.ListN.{length, take}
+use Rattle.paper.specs.declared.refusals.Fault.TheVariants.{NoSuchTransition, OutTooShort}
 use Rattle.paper.specs.declared.Label.{Label}
 use Rattle.paper.specs.Formula.{Formula, labels}
 use Rattle.paper.specs.Branch.{branches}
@@ -23,7 +24,6 @@ use Rattle.written.specs.Tables.{table_in}
 use Rattle.written.specs.Inside.Understood.{Understood}
 use Rattle.net.proofs.Spans.{labels-between}
 use Rattle.strategy.specs.declared.Accepted.{Accepted}
-use Rattle.strategy.specs.declared.Judged.TheVariants as judged
 use Rattle.marks.specs.Marks.{is_marked}
 use Rattle.strategy.specs.Judge.{judged_of}
 use Rattle.transitions.proofs.MarkedBytes.{bytes-at}
@@ -38,8 +38,9 @@ use Rattle.demands.proofs.Judged.{counts-read}
 use Rattle.demands.proofs.Filled.{fills-front, refuses-so, transition-given, transition-short, transition-absent}
 use Rattle.demands.proofs.Differ.{numbered, bytes-differ}
 use Rattle.demands.proofs.Slices.{slice-alike}
+use Rattle.std.specs.Prelude.{Ok}
 
-module _ (words : List ℕ) (a : Accepted) (e : judged_of words ≡ judged.Accepted a) (r : ℕ) (p : AnswerPacked (judge_of words) r) where
+module _ (words : List ℕ) (a : Accepted) (e : judged_of words ≡ Ok a) (r : ℕ) (p : AnswerPacked (judge_of words) r) where
   abbrev t : Table
   t = table_in words a.layout
 
@@ -91,10 +92,10 @@ module _ (words : List ℕ) (a : Accepted) (e : judged_of words ≡ judged.Accep
         let (k, h, same) = numbered ((keys-listed f A).onto b m) in
         (k, omega (arith, counts.transitions), to-class A (branches f) (key_of t k) m (sym same));
     no_more = λ k h lent left s q.
-        refuses-so (transition_of words k (length lent)) (transition-allows words k q) 15 a.transitions (transition_count r)
+        refuses-so (transition_of words k (length lent)) (transition-allows words k q) NoSuchTransition a.transitions (transition_count r)
         (transition-absent words a e kept_marks k (length lent) (omega (arith, many))) (sym many);
     too_short = λ k h lent room left s q.
-        refuses-so (transition_of words k (length lent)) (transition-allows words k q) 16 (length (kept_marks words a.layout k)) (row_count r)
+        refuses-so (transition_of words k (length lent)) (transition-allows words k q) OutTooShort (length (kept_marks words a.layout k)) (row_count r)
         (transition-short words a e kept_marks k (length lent) (omega (arith, many)) (omega (arith, rows k))) (rows k);
   }
 

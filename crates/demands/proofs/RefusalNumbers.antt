@@ -6,8 +6,10 @@ use mathlib.Core.List.{List, [], ◌∷◌, map}
 use lib.Dec.{ltb, eqb}
 use lib.ListN.{length, get_or, drop}
 use Rattle.paper.specs.declared.Refusal.{Refusal}
-use Rattle.paper.specs.Refusals.{refusal, no_candidate, no_order, too_many, variable_missed, variable_twice, absent, count_out_of_range}
-use Rattle.paper.specs.Refusals.{entry_unfit, name_not_above, read_beyond, reads_left, row_broken, too_deep, words_follow}
+use Rattle.paper.specs.declared.refusals.Fault.TheVariants.{NoCandidate, NoOrder, TooMany, VariableMissed, VariableTwice, Absent, CountOutOfRange, EntryUnfit}
+use Rattle.paper.specs.declared.refusals.Fault.TheVariants.{NameNotAbove, ReadBeyond, ReadsLeft, RowBroken, TooDeep, WordsFollow}
+use Rattle.paper.specs.declared.refusals.Fault.{Fault}
+use Rattle.paper.specs.Refusals.{refusal, fault_number}
 use Rattle.paper.specs.declared.Label.{Label}
 use Rattle.paper.specs.Formula.{Formula, labels}
 use Rattle.paper.specs.Limits.{most_transitions, most_chosen, most_reads, most_rows, most_variables}
@@ -17,67 +19,66 @@ use Rattle.entries.specs.First.{first}
 use Rattle.entries.specs.Entries.{falls, beyond}
 use Rattle.rows.specs.Rows.{breaks_rules, taken_before, is_deep}
 use Rattle.sections.specs.declared.Cursor.{Cursor}
-use Rattle.sections.specs.declared.Step.{Step}
-use Rattle.sections.specs.declared.Step.TheVariants.{Next, Halt}
 use Rattle.sections.specs.Sections.{halt, and_then, start, open_at, variables_at, reads_at, rows_at, strategy_at, end_at}
 use Rattle.table.specs.declared.Layout.{Layout}
 use Rattle.table.specs.Table.{part_at, reads_of, sections, layout, as_checked, checked}
 use Rattle.written.specs.Tables.{formula_in}
-use Rattle.strategy.specs.declared.Judged.{Judged}
-use Rattle.strategy.specs.declared.Judged.TheVariants as judged
 use Rattle.strategy.specs.Verdict.{as_judged}
 use Rattle.strategy.specs.Judge.{proposal_in, judged_of, judged_as}
 use Rattle.demands.specs.Demands.{JudgeGives}
+use Rattle.std.specs.Prelude.{Result, Ok, Err}
+use Rattle.strategy.specs.declared.Accepted.{Accepted}
 
 -- a step that goes on, or halts with a number that the judgement gives
-abbrev StepGives : Step → Type 0
-StepGives (Next c) = Unit {0}
-StepGives (Halt x) = JudgeGives x.number
+abbrev StepGives : Result Cursor Refusal → Type 0
+StepGives (Ok c) = Unit {0}
+StepGives (Err x) = JudgeGives (fault_number x.fault)
 
-gives_then : (s : Step) (next : Cursor → Step) → StepGives s → ((c : Cursor) → StepGives (next c)) → StepGives (and_then s next)
-gives_then (Halt x) next g h = g
-gives_then (Next c) next g h = h c
+gives_then : (s : Result Cursor Refusal) (next : Cursor → Result Cursor Refusal) → StepGives s → ((c : Cursor) → StepGives (next c))
+    → StepGives (and_then s next)
+gives_then (Err x) next g h = g
+gives_then (Ok c) next g h = h c
 
-gives-or : (b : Bool) (x y : Step) → StepGives x → StepGives y → StepGives (cond b x y)
+gives-or : (b : Bool) (x y : Result Cursor Refusal) → StepGives x → StepGives y → StepGives (cond b x y)
 gives-or true x y g h = g
 gives-or false x y g h = h
 
 -- a check that halts with this number, and then what follows
-check : (b : Bool) (number place : ℕ) (next : Step) → JudgeGives number → StepGives next → StepGives (cond b (halt number place) next)
-check b number place next g h = gives-or b (halt number place) next g h
+check : (b : Bool) (fault : Fault) (place : ℕ) (next : Result Cursor Refusal) → JudgeGives (fault_number fault) → StepGives next → StepGives (cond b (halt fault place) next)
+check b fault place next g h = gives-or b (halt fault place) next g h
 
 open_gives : (part : List ℕ) (c : Cursor) (low high width : ℕ) → StepGives (open_at part c low high width)
 unfolding open_at
 open_gives part c low high width =
-    check (eqb (length part) 0) absent _ _ refl
-    (check (ltb (get_or part 0 0) low || ltb high (get_or part 0 0)) count_out_of_range _ _ refl
-    (check (ltb (length part - 1) (get_or part 0 0 * width)) absent _ _ refl tt))
+    check (eqb (length part) 0) Absent _ _ refl
+    (check (ltb (get_or part 0 0) low || ltb high (get_or part 0 0)) CountOutOfRange _ _ refl
+    (check (ltb (length part - 1) (get_or part 0 0 * width)) Absent _ _ refl tt))
 
 variables-give : (part : List ℕ) (c : Cursor) → StepGives (variables_at part c)
 unfolding variables_at
 variables-give part c = gives_then (open_at part c 1 most_variables 1) _ (open_gives part c 1 most_variables 1) (λ d.
-    check (ltb (first (falls (drop 1 part)) d.count) d.count) name_not_above _ _ refl tt)
+    check (ltb (first (falls (drop 1 part)) d.count) d.count) NameNotAbove _ _ refl tt)
 
 reads-give : (part : List ℕ) (c : Cursor) → StepGives (reads_at part c)
 unfolding reads_at
 reads-give part c = gives_then (open_at part c 0 most_reads 1) _ (open_gives part c 0 most_reads 1) (λ d.
-    check (ltb (first (beyond (drop 1 part) c.variables) d.count) d.count) read_beyond _ _ refl tt)
+    check (ltb (first (beyond (drop 1 part) c.variables) d.count) d.count) ReadBeyond _ _ refl tt)
 
 rows-give : (part reads : List ℕ) (c : Cursor) → StepGives (rows_at part reads c)
 unfolding rows_at
 rows-give part reads c = gives_then (open_at part c 1 most_rows 4) _ (open_gives part c 1 most_rows 4) (λ d.
-    check (ltb (first (breaks_rules (drop 1 part) reads c.variables d.count) d.count) d.count) row_broken _ _ refl
-    (check (ltb (taken_before (drop 1 part) d.count) c.reads) reads_left _ _ refl
-    (check (ltb (first (is_deep (drop 1 part)) d.count) d.count) too_deep _ _ refl tt)))
+    check (ltb (first (breaks_rules (drop 1 part) reads c.variables d.count) d.count) d.count) RowBroken _ _ refl
+    (check (ltb (taken_before (drop 1 part) d.count) c.reads) ReadsLeft _ _ refl
+    (check (ltb (first (is_deep (drop 1 part)) d.count) d.count) TooDeep _ _ refl tt)))
 
 strategy-gives : (part : List ℕ) (c : Cursor) → StepGives (strategy_at part c)
 unfolding strategy_at
 strategy-gives part c = gives_then (open_at part c 0 most_chosen 1) _ (open_gives part c 0 most_chosen 1) (λ d.
-    check (ltb (first (λ k. beyond (drop 1 part) c.rows k || falls (drop 1 part) k) d.count) d.count) entry_unfit _ _ refl tt)
+    check (ltb (first (λ k. beyond (drop 1 part) c.rows k || falls (drop 1 part) k) d.count) d.count) EntryUnfit _ _ refl tt)
 
 end-gives : (present : ℕ) (c : Cursor) → StepGives (end_at present c)
 unfolding end_at
-end-gives present c = check (ltb c.at present) words_follow _ _ refl tt
+end-gives present c = check (ltb c.at present) WordsFollow _ _ refl tt
 
 sections-give : (words : List ℕ) → StepGives (sections words)
 unfolding sections
@@ -91,27 +92,28 @@ sections-give words =
 -- a judgement that accepts, or refuses with such a number
 abbrev JudgementGives : Judgement → Type 0
 JudgementGives (accepted v n s t) = Unit {0}
-JudgementGives (refused x) = JudgeGives x.number
+JudgementGives (refused x) = JudgeGives (fault_number x.fault)
 
-refuse-gives : (number : ℕ) (places : List ℕ) (next : Judgement) → JudgeGives number → JudgementGives next → JudgementGives (refuse number places next)
-refuse-gives number [] next g h = h
-refuse-gives number (place ∷ others) next g h = g
+refuse-gives : (fault : Fault) (places : List ℕ) (next : Judgement) → JudgeGives (fault_number fault) → JudgementGives next
+    → JudgementGives (refuse fault places next)
+refuse-gives fault [] next g h = h
+refuse-gives fault (place ∷ others) next g h = g
 
 judge-gives : (#V : ℕ) (f : Formula) (A : List Label) → JudgementGives (judge #V f A)
 judge-gives #V f A =
-    refuse-gives no_candidate (map (λ l. l.0) (strangers f A)) _ refl
-    (refuse-gives variable_missed (map (λ v. v.0) (missed #V f A)) _ refl
-    (refuse-gives variable_twice (map (λ v. v.0) (doubled #V f A)) _ refl
-    (refuse-gives no_order (map (λ l. l.0) (on_cycles f A)) _ refl (last (ltb most_transitions (length (keys f A)))))))
+    refuse-gives NoCandidate (map (λ l. l.0) (strangers f A)) _ refl
+    (refuse-gives VariableMissed (map (λ v. v.0) (missed #V f A)) _ refl
+    (refuse-gives VariableTwice (map (λ v. v.0) (doubled #V f A)) _ refl
+    (refuse-gives NoOrder (map (λ l. l.0) (on_cycles f A)) _ refl (last (ltb most_transitions (length (keys f A)))))))
   where
-    last : (b : Bool) → JudgementGives (cond b (refused (refusal too_many 0)) (accepted #V (length (labels f)) (length A) (length (keys f A))))
+    last : (b : Bool) → JudgementGives (cond b (refused (refusal TooMany 0)) (accepted #V (length (labels f)) (length A) (length (keys f A))))
     last true = refl
     last false = tt
 
 -- an answer to words
-abbrev pub AnswerGives : Judged → Type 0
-AnswerGives (judged.Accepted a) = Unit {0}
-AnswerGives (judged.Refused x) = JudgeGives x.number
+abbrev pub AnswerGives : Result Accepted Refusal → Type 0
+AnswerGives (Ok a) = Unit {0}
+AnswerGives (Err x) = JudgeGives (fault_number x.fault)
 
 answers-give : (l : Layout) (j : Judgement) → JudgementGives j → AnswerGives (as_judged l j)
 answers-give l (accepted v n s t) g = tt
@@ -121,11 +123,11 @@ pub judged-gives : (words : List ℕ) → AnswerGives (judged_of words)
 unfolding judged_of checked
 judged-gives words = go (sections words) (sections-give words)
   where
-    go : (s : Step) → StepGives s → AnswerGives (judged_as words (as_checked s))
-    go (Halt x) g = g
-    go (Next c) g =
+    go : (s : Result Cursor Refusal) → StepGives s → AnswerGives (judged_as words (as_checked s))
+    go (Err x) g = g
+    go (Ok c) g =
         let l = layout c.variables c.reads c.rows c.count in
         answers-give l (judge l.variables (formula_in words l) (proposal_in words l)) (judge-gives l.variables (formula_in words l) (proposal_in words l))
 
-pub refused-number : (words : List ℕ) (x : Refusal) → judged_of words ≡ judged.Refused x → JudgeGives x.number
+pub refused-number : (words : List ℕ) (x : Refusal) → judged_of words ≡ Err x → JudgeGives (fault_number x.fault)
 refused-number words x e = subst AnswerGives e (judged-gives words)

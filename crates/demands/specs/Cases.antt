@@ -2,9 +2,9 @@
 -- one list: the formulas and answers of crates/paper/specs/Cases.antt, here as the words that write them, and the case of no words.
 -- The further formulas of crates/paper/specs/FurtherCases.antt are taken in the same way. proofs/Cases.antt proves that the
 -- definitions answer so.
-use Rattle.std.specs.Prelude.{ℕ, cond, List, [], ◌∷◌, ◌++◌, map, eqb, length}
+use Rattle.std.specs.Prelude.{ℕ, cond, List, [], ◌∷◌, ◌++◌, map, eqb, length, Result, Ok, Err}
 use Rattle.paper.specs.declared.Refusal.{Refusal}
-use Rattle.paper.specs.Refusals.{refusal}
+use Rattle.paper.specs.Refusals.{refusal, fault_of}
 use Rattle.paper.specs.Lists.{any_of}
 use Rattle.paper.specs.Judgement.{Judgement, accepted, refused}
 use Rattle.paper.specs.Cases.{Line, proposal, starred_formulas}
@@ -13,25 +13,24 @@ use Rattle.paper.specs.FurtherCases.{first_checks, lowest_shows, before_others, 
 use Rattle.paper.specs.Lists.{up_to}
 use Rattle.written.specs.Written.{written}
 use Rattle.filling.specs.Filling.{Outcome, refuses, fills}
-use Rattle.answers.specs.declared.Answer.{Answer}
-use Rattle.answers.specs.declared.Answer.TheVariants as answer
 use Rattle.answers.specs.Requests.{judge_of, order_of, transition_of, assignments_of}
+use Rattle.answers.specs.declared.Counts.{Counts}
 
 -- what judge, order, and for each k transition k and its assignments answer
 pub record Listing : Type 0 where
-  pub judged : Answer
-  pub ordered : Outcome
-  pub kept : List Outcome
-  pub assigned : List Outcome
+  pub judged : Result Counts Refusal
+  pub ordered : Outcome ℕ
+  pub kept : List (Outcome ℕ)
+  pub assigned : List (Outcome ℕ)
 
 pub record Case : Type 0 where
   pub words : List ℕ
   pub expected : Listing
 
 -- the answers, with room for the longest
-abbrev count_in : Answer → ℕ
-count_in (answer.Accepted c) = c.transitions
-count_in (answer.Refused x) = 0
+abbrev count_in : Result Counts Refusal → ℕ
+count_in (Ok c) = c.transitions
+count_in (Err x) = 0
 
 abbrev pub listing : List ℕ → Listing
 listing words = record {
@@ -42,10 +41,10 @@ listing words = record {
 }
 
 abbrev pub refusing : Refusal → Listing
-refusing r = record { judged = answer.Refused r; ordered = refuses r; kept = []; assigned = [] }
+refusing r = record { judged = Err r; ordered = refuses r; kept = []; assigned = [] }
 
 abbrev pub refuses_with : ℕ → ℕ → Listing
-refuses_with number place = refusing (refusal number place)
+refuses_with number place = refusing (refusal (fault_of number) place)
 
 -- words that are refused
 abbrev pub faulty : List ℕ → ℕ → ℕ → Case
@@ -72,7 +71,7 @@ marks n keep = map (λ i. cond (any_of (eqb i) keep) 1 0) (up_to n)
 -- a formula's answer, as the requests give it: the judgement, the order, and of each transition the marks and the assignments
 abbrev pub listed : Judgement → List ℕ → List Line → Listing
 listed (accepted v n s t) order lines = record {
-  judged = answer.Accepted (record { variables = v; rows = n; chosen = s; transitions = t });
+  judged = Ok (record { variables = v; rows = n; chosen = s; transitions = t });
   ordered = fills order;
   kept = map (λ l. fills (marks n l.keep)) lines;
   assigned = map (λ l. fills l.assign) lines;

@@ -5,8 +5,11 @@ use Rattle.std.specs.Prelude.{ℕ, ◌+◌, ◌*◌, ◌^◌, ◌<◌, ◌≤◌
 use mathlib.Core.List.{List, [], ◌∷◌, map, Memᴰ}
 use Rattle.paper.specs.Limits.{most_transitions}
 use Rattle.paper.specs.declared.Label.{Label}
-use Rattle.paper.specs.Refusals.{absent, count_out_of_range, name_not_above, read_beyond, row_broken, reads_left, too_deep, entry_unfit, words_follow}
-use Rattle.paper.specs.Refusals.{no_candidate, variable_missed, variable_twice, no_order, too_many, no_such_transition, uneven, out_too_short}
+use Rattle.paper.specs.declared.refusals.Fault.TheVariants.{Absent, CountOutOfRange, NameNotAbove, ReadBeyond, RowBroken, ReadsLeft, TooDeep, EntryUnfit}
+use Rattle.paper.specs.declared.refusals.Fault.TheVariants.{WordsFollow, NoCandidate, VariableMissed, VariableTwice, NoOrder, TooMany, NoSuchTransition, Uneven}
+use Rattle.paper.specs.declared.refusals.Fault.TheVariants.{OutTooShort}
+use Rattle.paper.specs.declared.refusals.Fault.{Fault}
+use Rattle.paper.specs.Refusals.{fault_number}
 use Rattle.paper.specs.Lists.{any_of, those}
 use Rattle.paper.specs.Formula.{ℓ, has, Formula, labels}
 use Rattle.paper.specs.Branch.{branches}
@@ -21,21 +24,21 @@ use Rattle.demands.specs.Allowed.{refusal_number, refusal_place, variable_count,
 
 -- Demand 1. Every answer is an acceptance or one refusal, and a refusal writes nothing.
 
--- The refusal numbers that a request can give (document 01: "15 to 18 come only from the requests that they name"). 17 is the
+-- The reasons to refuse, and their numbers, that a request can give (document 01: "15 to 18 come only from the requests that they name"). 17 is the
 -- lister's.
-abbrev pub judge_numbers : List ℕ
-judge_numbers =
-    absent ∷ count_out_of_range ∷ name_not_above ∷ read_beyond ∷ row_broken ∷ reads_left ∷ too_deep ∷ entry_unfit ∷ words_follow
-    ∷ no_candidate ∷ variable_missed ∷ variable_twice ∷ no_order ∷ too_many ∷ []
+abbrev pub judge_faults : List Fault
+judge_faults =
+    Absent ∷ CountOutOfRange ∷ NameNotAbove ∷ ReadBeyond ∷ RowBroken ∷ ReadsLeft ∷ TooDeep ∷ EntryUnfit ∷ WordsFollow
+    ∷ NoCandidate ∷ VariableMissed ∷ VariableTwice ∷ NoOrder ∷ TooMany ∷ []
 
 abbrev pub JudgeGives : ℕ → Type 0
-JudgeGives n = any_of (eqb n) judge_numbers ≡ true
+JudgeGives n = any_of (eqb n) (map fault_number judge_faults) ≡ true
 
 abbrev pub OrderGives : ℕ → Type 0
-OrderGives n = JudgeGives n ⊎ (n ≡ out_too_short)
+OrderGives n = JudgeGives n ⊎ (n ≡ fault_number OutTooShort)
 
 abbrev pub TransitionGives : ℕ → Type 0
-TransitionGives n = JudgeGives n ⊎ ((n ≡ no_such_transition) ⊎ ((n ≡ uneven) ⊎ (n ≡ out_too_short)))
+TransitionGives n = JudgeGives n ⊎ ((n ≡ fault_number NoSuchTransition) ⊎ ((n ≡ fault_number Uneven) ⊎ (n ≡ fault_number OutTooShort)))
 
 -- the answer is an acceptance, or a refusal's number and place and nothing beside them
 abbrev pub IsAnswer : (ℕ → Type 0) → ℕ → Type 0
@@ -55,11 +58,11 @@ pub record Demand1 : Type 0 where
   pub transition : (words : List ℕ) (k : ℕ) → Answered words TransitionGives (TransitionAnswers words k)
   pub assignments : (words : List ℕ) (k : ℕ) → Answered words TransitionGives (AssignmentsAnswers words k)
 
--- What a request that fills does to a lent slice, whatever it answers: it refuses with this number and place and leaves the slice
+-- What a request that fills does to a lent slice, whatever it answers: it refuses for this reason, by its number, with this place, and leaves the slice
 -- as it was; or it fills the first n words or bytes, so that P holds of them, answers n, and leaves those beyond as they were.
-abbrev pub Refuses : Request → ℕ → ℕ → List ℕ → Type 0
-Refuses request number place lent =
-    (left : List ℕ) (r : ℕ) → request lent left r → (refusal_number r ≡ number) × (refusal_place r ≡ place) × (left ≡ lent)
+abbrev pub Refuses : Request → Fault → ℕ → List ℕ → Type 0
+Refuses request fault place lent =
+    (left : List ℕ) (r : ℕ) → request lent left r → (refusal_number r ≡ fault_number fault) × (refusal_place r ≡ place) × (left ≡ lent)
 
 abbrev pub Fills : Request → ℕ → (List ℕ → Type 0) → List ℕ → Type 0
 Fills request n P lent = (left : List ℕ) (r : ℕ) → request lent left r → (r ≡ n) × P (take n left) × (drop n left ≡ drop n lent)
@@ -127,9 +130,9 @@ pub record TransitionsListed (words : List ℕ) (r : ℕ) (t : Table) : Type 0 w
   pub differ : (j k : ℕ) → j < transition_count r → k < transition_count r → (bytes : List ℕ) → IsTransition t j bytes → IsTransition t k bytes → j ≡ k
   pub stands : (b : List Label) → Memᴰ b (branches t.formula)
       → (k : ℕ) × (k < transition_count r) × Memᴰ b (class t.formula t.strategy (key_of t k))
-  pub no_more : (k : ℕ) → transition_count r ≤ k → (lent : List ℕ) → Refuses (TransitionAnswers words k) no_such_transition (transition_count r) lent
+  pub no_more : (k : ℕ) → transition_count r ≤ k → (lent : List ℕ) → Refuses (TransitionAnswers words k) NoSuchTransition (transition_count r) lent
   pub too_short : (k : ℕ) → k < transition_count r → (lent : List ℕ) → length lent < row_count r
-      → Refuses (TransitionAnswers words k) out_too_short (row_count r) lent
+      → Refuses (TransitionAnswers words k) OutTooShort (row_count r) lent
 
 pub record Demand2 : Type 0 where
   pub judged : (words : List ℕ) (r : ℕ) → JudgeAnswers words r → JudgedExactly words r
@@ -139,12 +142,12 @@ pub record Demand2 : Type 0 where
 -- are the chosen labels of each branch of class k, and are carried out. Every branch is of some such class (`stands`).
 pub record CarriedOut (words : List ℕ) (r : ℕ) (t : Table) : Type 0 where
   pub ordered : (lent : List ℕ) → chosen_count r ≤ length lent → Fills (OrderAnswers words) (chosen_count r) (λ ws. map ℓ ws ≡ reported t) lent
-  pub order_too_short : (lent : List ℕ) → length lent < chosen_count r → Refuses (OrderAnswers words) out_too_short (chosen_count r) lent
+  pub order_too_short : (lent : List ℕ) → length lent < chosen_count r → Refuses (OrderAnswers words) OutTooShort (chosen_count r) lent
   pub assigned : (k : ℕ) → k < transition_count r → (lent : List ℕ) → variable_count r ≤ length lent
       → Fills (AssignmentsAnswers words k) (variable_count r) (IsAssignments t k) lent
-  pub no_more : (k : ℕ) → transition_count r ≤ k → (lent : List ℕ) → Refuses (AssignmentsAnswers words k) no_such_transition (transition_count r) lent
+  pub no_more : (k : ℕ) → transition_count r ≤ k → (lent : List ℕ) → Refuses (AssignmentsAnswers words k) NoSuchTransition (transition_count r) lent
   pub too_short : (k : ℕ) → k < transition_count r → (lent : List ℕ) → length lent < variable_count r
-      → Refuses (AssignmentsAnswers words k) out_too_short (variable_count r) lent
+      → Refuses (AssignmentsAnswers words k) OutTooShort (variable_count r) lent
 
 -- Demand 3, second half: under every meaning the formula is true exactly if, for some k below the count, its slice by the bytes that
 -- the transition request leaves for k is true (Theorem 2). `left k` is what it leaves of the slice `lent k`, which has room.

@@ -1,23 +1,23 @@
 -- What is asked of the requests themselves (document 01, "Requests and what they give"; refusals 15, 18 and 16): each is lent a slice and
 -- gives an answer and what the slice holds afterwards. proofs/Cases.antt proves that the definitions say so.
-use Rattle.std.specs.Prelude.{ℕ, List, [], ◌∷◌, length}
-use Rattle.paper.specs.Refusals.{refusal}
+use Rattle.std.specs.Prelude.{ℕ, List, [], ◌∷◌, length, Result, Ok, Err}
+use Rattle.paper.specs.Refusals.{refusal, fault_of}
 use Rattle.paper.specs.Formula.{ℓ}
 use Rattle.written.specs.Example.{words_of_p}
-use Rattle.filling.specs.declared.Filled.{Filled}
-use Rattle.filling.specs.declared.Filled.TheVariants as filled
 use Rattle.filling.specs.Filling.{Outcome, refuses, filled_of, after}
 use Rattle.answers.specs.Requests.{unless_absent, order_of, transition_of, assignments_of}
 use Rattle.demands.specs.Cases.{row, table}
+use Rattle.filling.specs.declared.Length.{Length}
+use Rattle.paper.specs.declared.Refusal.{Refusal}
 
 -- an answer, and what is left in the lent slice
 pub record Left : Type 0 where
-  pub answered : Filled
+  pub answered : Result Length Refusal
   pub left : List ℕ
 
 -- a request, by the room that it is lent; a lent slice; what is wanted
 pub record Asked : Type 0 where
-  pub request : ℕ → Outcome
+  pub request : ℕ → Outcome ℕ
   pub lent : List ℕ
   pub wanted : Left
 
@@ -26,12 +26,12 @@ abbrev pub done : Asked → Left
 done r = record { answered = filled_of (r.request (length r.lent)); left = after (r.request (length r.lent)) r.lent }
 
 -- the number of words or bytes filled, and the slice; a refusal, and the slice as it was
-abbrev filling : (ℕ → Outcome) → List ℕ → ℕ → List ℕ → Asked
-filling request lent count left = record { request = request; lent = lent; wanted = record { answered = filled.Done (record { count = count }); left = left } }
+abbrev filling : (ℕ → Outcome ℕ) → List ℕ → ℕ → List ℕ → Asked
+filling request lent count left = record { request = request; lent = lent; wanted = record { answered = Ok (record { count = count }); left = left } }
 
-abbrev refusing : (ℕ → Outcome) → List ℕ → ℕ → ℕ → Asked
+abbrev refusing : (ℕ → Outcome ℕ) → List ℕ → ℕ → ℕ → Asked
 refusing request lent number place =
-    record { request = request; lent = lent; wanted = record { answered = filled.Refused (refusal number place); left = lent } }
+    record { request = request; lent = lent; wanted = record { answered = Err (refusal (fault_of number) place); left = lent } }
 
 -- x' in s with its star for a chosen label, which judge refuses with 10 at 1
 abbrev star_chosen : List ℕ
@@ -66,21 +66,21 @@ requests =
 
 -- A check of transition k alone, the last of those before 16: no accepted table meets 18 (`Amounts` in crates/answers).
 pub record Check : Type 0 where
-  pub asked : Outcome
-  pub wanted : Outcome
+  pub asked : Outcome ℕ
+  pub wanted : Outcome ℕ
 
-abbrev check : Outcome → Outcome → Check
+abbrev check : Outcome ℕ → Outcome ℕ → Check
 check asked wanted = record { asked = asked; wanted = wanted }
 
 -- of three transitions and two variables, with a slice that is too short
 abbrev pub checks : List Check
 checks =
     -- transition 1 has one chosen label: 18 at 1, before 16
-    check (unless_absent 1 3 2 (ℓ 5 ∷ []) (refuses (refusal 16 2))) (refuses (refusal 18 1))
+    check (unless_absent 1 3 2 (ℓ 5 ∷ []) (refuses (refusal (fault_of 16) 2))) (refuses (refusal (fault_of 18) 1))
     -- it has three
-    ∷ check (unless_absent 1 3 2 (ℓ 5 ∷ ℓ 7 ∷ ℓ 9 ∷ []) (refuses (refusal 16 2))) (refuses (refusal 18 1))
+    ∷ check (unless_absent 1 3 2 (ℓ 5 ∷ ℓ 7 ∷ ℓ 9 ∷ []) (refuses (refusal (fault_of 16) 2))) (refuses (refusal (fault_of 18) 1))
     -- it has two
-    ∷ check (unless_absent 1 3 2 (ℓ 5 ∷ ℓ 7 ∷ []) (refuses (refusal 16 2))) (refuses (refusal 16 2))
+    ∷ check (unless_absent 1 3 2 (ℓ 5 ∷ ℓ 7 ∷ []) (refuses (refusal (fault_of 16) 2))) (refuses (refusal (fault_of 16) 2))
     -- there is no transition 3: 15 at 3, before 18
-    ∷ check (unless_absent 3 3 2 [] (refuses (refusal 16 2))) (refuses (refusal 15 3))
+    ∷ check (unless_absent 3 3 2 [] (refuses (refusal (fault_of 16) 2))) (refuses (refusal (fault_of 15) 3))
     ∷ []

@@ -6,8 +6,8 @@ use mathlib.Core.Path.{◌≡◌, refl, sym, ap, ◌∙◌}
 use mathlib.Core.List.{List, [], ◌∷◌}
 use lib.ListN.{length, get_or, take, drop, set}
 use lib.Seq.{take_at}
-use Rattle.filling.specs.Inside.Copied.{copied}
-use Rattle.filling.proofs.Copies.{copied_all, Copying, copy-goes-on, copy-ends}
+use Rattle.input.specs.Inside.Copied.{copied}
+use Rattle.input.proofs.Copies.{copied_all, Copying, copy-goes-on, copy-ends}
 use Rattle.input.specs.Bytes.{words_of}
 use Rattle.input.specs.Inside.Words.{WordsIn}
 

@@ -5,18 +5,19 @@ use mathlib.Core.List.{List}
 use lib.ListN.{length}
 use borrow.Author.Tests.{eq-eqb, ne_eqb}
 use Rattle.paper.specs.declared.Refusal.{Refusal}
-use Rattle.paper.specs.Refusals.{refusal, odd_bytes}
-use Rattle.strategy.specs.declared.Judged.{Judged}
-use Rattle.strategy.specs.declared.Judged.TheVariants as judged
+use Rattle.paper.specs.declared.refusals.Fault.TheVariants.{OddBytes}
+use Rattle.paper.specs.Refusals.{refusal}
 use Rattle.strategy.specs.Judge.{order_left, JudgedInto}
 use Rattle.input.specs.Bytes.{words_of, judged_bytes, order_left_of, JudgedBytes}
+use Rattle.std.specs.Prelude.{Result, Err}
+use Rattle.strategy.specs.declared.Accepted.{Accepted}
 
 module _ {bytes lent : List ℕ} where
-  pub odd-judged : {x : Refusal} → length bytes % 2 ≡ 1 → x ≡ refusal odd_bytes (length bytes / 2) → JudgedBytes bytes lent lent (judged.Refused x)
+  pub odd-judged : {x : Refusal} → length bytes % 2 ≡ 1 → x ≡ refusal OddBytes (length bytes / 2) → JudgedBytes bytes lent lent (Err x)
   unfolding judged_bytes order_left_of
   odd-judged odd e = let is_odd = eq-eqb (length bytes % 2) 1 odd in rw e (record { answered = rw is_odd; left_so = rw is_odd })
 
-  pub even-judged : {words left : List ℕ} {r : Judged} → words ≡ words_of bytes → (length bytes % 2 ≡ 1 → ⊥) → JudgedInto words lent left r
+  pub even-judged : {words left : List ℕ} {r : Result Accepted Refusal} → words ≡ words_of bytes → (length bytes % 2 ≡ 1 → ⊥) → JudgedInto words lent left r
       → JudgedBytes bytes lent left r
   unfolding judged_bytes order_left order_left_of
   even-judged {left = left} {r} are even i =

@@ -1,3 +1,4 @@
+pub mod Copies
 pub mod BytePairs
 pub mod BytesJudged
 pub mod Length

@@ -1,7 +1,7 @@
 -- A refusal writes nothing: for each public function that lends and can refuse, whatever refusal its contract allows, every lent word
 -- is left as it was.
 use Rattle.paper.specs.Outcome.{RefusalLeaves}
-use Rattle.strategy.specs.Verdict.{IsRefusal}
+use Rattle.paper.specs.Refusals.{IsRefusal}
 use Rattle.strategy.specs.Judge.{order_in}
 use Rattle.strategy.proofs.RefusalLeaves.{as_it_was}
 use Rattle.input.specs.Bytes.{words_of, order_left_of}

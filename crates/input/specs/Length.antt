@@ -1,21 +1,19 @@
 -- How long a table is: at most 29,700 words (document 01, "The formula table"). The lister reads at most 65,536 bytes, the first ones of a
 -- longer file, and no table reaches that length (document 01, "Refusal numbers, in the order of checks").
-use Rattle.std.specs.Prelude.{ℕ, ◌*◌, ◌<◌, ◌≤◌, List, ◌++◌, ◌≡◌, length}
+use Rattle.std.specs.Prelude.{ℕ, ◌*◌, ◌<◌, ◌≤◌, List, ◌++◌, ◌≡◌, length, Ok, Err}
 use Rattle.paper.specs.declared.Refusal.{Refusal}
 use Rattle.paper.specs.Limits.{most_bytes, most_words}
 use Rattle.table.specs.declared.Layout.{Layout}
-use Rattle.table.specs.declared.Checked.TheVariants.{Sound}
 use Rattle.table.specs.Table.{checked}
-use Rattle.strategy.specs.declared.Judged.TheVariants as judged
 use Rattle.input.specs.Bytes.{judged_bytes}
 
 -- sound words are no more
 abbrev pub SoundShort : Type 0
-SoundShort = (words : List ℕ) (l : Layout) → checked words ≡ Sound l → length words ≤ most_words
+SoundShort = (words : List ℕ) (l : Layout) → checked words ≡ Ok l → length words ≤ most_words
 
 -- bytes that are refused
 abbrev pub AreRefused : List ℕ → Type 0
-AreRefused bytes = (x : Refusal) × (judged_bytes bytes ≡ judged.Refused x)
+AreRefused bytes = (x : Refusal) × (judged_bytes bytes ≡ Err x)
 
 -- more bytes are refused
 abbrev pub LongRefused : Type 0

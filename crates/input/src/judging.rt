@@ -3,18 +3,19 @@ ghost use Rattle.std.specs.Prelude.{◌≡◌, ◌≤◌, length};
 ghost use Rattle.input.specs.Bytes.{words_of, JudgedBytes};
 ghost use Rattle.paper.specs.Limits.{most_bytes, slots};
 
+use paper::Refusal;
 use paper::limits::SLOTS;
-use paper::refusals::{ODD_BYTES, refusal_at};
-use strategy::{Judged, judge_into};
+use paper::refusals::{Fault, refusal_at};
+use strategy::{Accepted, judge_into};
 
 // The answer to any bytes, at most 65,536, whose words these are. Of accepted ones the reported order stands in front of `order`; a
 // refusal leaves it as it was.
-pub fn judge_bytes(bytes: &[u8], words: &[u16], order: &mut [u16; SLOTS]) -> Judged
+pub fn judge_bytes(bytes: &[u8], words: &[u16], order: &mut [u16; SLOTS]) -> Result<Accepted, Refusal>
     requires { (length bytes.now ≤ most_bytes) × (words.now ≡ words_of bytes.now) × (length order.old ≡ slots) }
     ensures { JudgedBytes bytes.now order.old order.new result }
 {
     if bytes.len() % 2 == 1 {
-        return Judged::Refused(refusal_at(ODD_BYTES, bytes.len() / 2));
+        return Err(refusal_at(Fault::OddBytes, bytes.len() / 2));
     }
     judge_into(words, order)
 }

@@ -7,13 +7,11 @@ use mathlib.Core.Bool.{Bool, true, false, cond}
 use mathlib.Core.List.{List}
 use lib.ListN.{length, take, length-map, length-take}
 use lib.Seq.{length-take-le}
-use Rattle.paper.specs.Refusals.{odd_bytes}
+use Rattle.paper.specs.declared.refusals.Fault.TheVariants.{OddBytes}
 use Rattle.paper.specs.Limits.{slots}
 use Rattle.paper.specs.declared.Refusal.{Refusal}
 use Rattle.entries.specs.Front.{in_front}
 use Rattle.strategy.specs.declared.Accepted.{Accepted}
-use Rattle.strategy.specs.declared.Judged.{Judged}
-use Rattle.strategy.specs.declared.Judged.TheVariants as judged
 use Rattle.strategy.specs.Verdict.{refused_at}
 use Rattle.strategy.specs.Judge.{left_by, order_in, judged_of}
 use Rattle.input.specs.Bytes.{words_of, are_odd, judged_bytes, order_left_of, JudgedBytes}
@@ -23,20 +21,21 @@ use Rattle.answers.specs.Inside.Judged.{AcceptedAs, Ordered, BasedExactly}
 use Rattle.answers.proofs.Accepted.{is-understood, few-transitions, few-chosen, reported-length, order-in-front, front-as-long}
 use Rattle.answers.proofs.Keeping.{is-based}
 use Rattle.lister.specs.Inside.Steps.{Headed, ListableIf, BasedIf, longest, Prepared}
+use Rattle.std.specs.Prelude.{Result, Ok, Err}
 
 -- what the judgement of bytes leaves
-module _ {bytes order₀ order : List ℕ} {r : Judged} (j : JudgedBytes bytes order₀ order r) where
+module _ {bytes order₀ order : List ℕ} {r : Result Accepted Refusal} (j : JudgedBytes bytes order₀ order r) where
   -- accepted bytes are even in number, so their words are accepted
-  accepted-words : (a : Accepted) → judged_bytes bytes ≡ judged.Accepted a → judged_of (words_of bytes) ≡ judged.Accepted a
+  accepted-words : (a : Accepted) → judged_bytes bytes ≡ Ok a → judged_of (words_of bytes) ≡ Ok a
   unfolding judged_bytes
   accepted-words a e = go (are_odd bytes) e
     where
-      go : (odd : Bool) → cond odd (refused_at odd_bytes (length bytes / 2)) (judged_of (words_of bytes)) ≡ judged.Accepted a
-          → judged_of (words_of bytes) ≡ judged.Accepted a
+      go : (odd : Bool) → cond odd (refused_at OddBytes (length bytes / 2)) (judged_of (words_of bytes)) ≡ Ok a
+          → judged_of (words_of bytes) ≡ Ok a
       go true q = let z : ◌≡◌ {A = ℕ} 0 1 = cc in absurd (omega arith)
       go false q = q
 
-  stands : (a : Accepted) → judged_bytes bytes ≡ judged.Accepted a → order ≡ in_front (order_in (words_of bytes) a.layout) order₀
+  stands : (a : Accepted) → judged_bytes bytes ≡ Ok a → order ≡ in_front (order_in (words_of bytes) a.layout) order₀
   unfolding order_left_of
   stands a e = j.left_so ∙ ap (λ r. left_by r (order_in (words_of bytes)) order₀) e
 
@@ -53,9 +52,9 @@ module _ {bytes order₀ order : List ℕ} {r : Judged} (j : JudgedBytes bytes o
   unfolding order_left_of
   order-long n = go (judged_bytes bytes) refl
     where
-      go : (i : Judged) → judged_bytes bytes ≡ i → length order ≡ slots
-      go (judged.Refused x) e = ap length (j.left_so ∙ ap (λ r. left_by r (order_in (words_of bytes)) order₀) e) ∙ n
-      go (judged.Accepted a) e = front-as-long (words_of bytes) order₀ order a (accepted-words a e) (stands a e) n
+      go : (i : Result Accepted Refusal) → judged_bytes bytes ≡ i → length order ≡ slots
+      go (Err x) e = ap length (j.left_so ∙ ap (λ r. left_by r (order_in (words_of bytes)) order₀) e) ∙ n
+      go (Ok a) e = front-as-long (words_of bytes) order₀ order a (accepted-words a e) (stands a e) n
 
 -- the first two lines of an accepted table can be put
 pub headed : {words order text : List ℕ} {a : Accepted} → Ordered words a order → length text ≡ 65536 → Headed a order text
@@ -72,11 +71,11 @@ headed {words} {order} {a = a} o room =
     }
 
 -- the lines of its transitions too, by what they are worked out from
-module _ {words : List ℕ} {j : Judged} {basis : Basis} where
-  pub accepted-basis : {a : Accepted} → j ≡ judged.Accepted a → BasedExactly words a.layout basis → BasedIf words j basis
+module _ {words : List ℕ} {j : Result Accepted Refusal} {basis : Basis} where
+  pub accepted-basis : {a : Accepted} → j ≡ Ok a → BasedExactly words a.layout basis → BasedIf words j basis
   accepted-basis {a} e based b q = let same : a ≡ b = cc in subst (λ x. BasedExactly words x.layout basis) same based
 
-  pub refused-basis : {x : Refusal} → j ≡ judged.Refused x → BasedIf words j basis
+  pub refused-basis : {x : Refusal} → j ≡ Err x → BasedIf words j basis
   refused-basis e a q = let z : ◌≡◌ {A = ℕ} 0 1 = cc in absurd (omega arith)
 
   pub listable-if : {bytes order : List ℕ} → Prepared bytes words j order → BasedIf words j basis → ListableIf words j basis.marks basis.own order

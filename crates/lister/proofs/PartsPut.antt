@@ -6,9 +6,8 @@ use mathlib.Core.Path.{◌≡◌, refl, ap}
 use mathlib.Core.List.{List}
 use lib.ListN.{length, take}
 use Rattle.paper.specs.declared.Refusal.{Refusal}
+use Rattle.paper.specs.Refusals.{fault_number}
 use Rattle.strategy.specs.declared.Accepted.{Accepted}
-use Rattle.strategy.specs.declared.Judged.{Judged}
-use Rattle.strategy.specs.declared.Judged.TheVariants as judged
 use Rattle.answers.specs.Inside.Judged.{Ordered}
 use Rattle.answers.proofs.Accepted.{few-transitions}
 use Rattle.listing.specs.Text.{refused_line}
@@ -19,30 +18,31 @@ use Rattle.lister.specs.Inside.Steps.{pieces}
 use Rattle.lister.specs.Inside.Steps.{LinesPut, many_pieces, PartPut, AcceptedIf}
 use Rattle.lister.proofs.Asked.{line-room}
 use Rattle.lister.proofs.LinesPut.{fits-within, fits-some}
+use Rattle.std.specs.Prelude.{Result, Ok, Err}
 
 module _ {words lent left : List ℕ} {n : ℕ} where
-  pub refused-part : (x : Refusal) {after : ℕ} → n < pieces (judged.Refused x) → Put lent 0 (refused_line x.number x.place) left after
-      → PartPut words (judged.Refused x) n lent left (record { next = 1; length = after })
+  pub refused-part : (x : Refusal) {after : ℕ} → n < pieces (Err x) → Put lent 0 (refused_line (fault_number x.fault) x.place) left after
+      → PartPut words (Err x) n lent left (record { next = 1; length = after })
   refused-part x h p = let first : n ≡ 0 = omega arith in rw first (record { many = refl; put = p })
 
   module _ {a : Accepted} {order : List ℕ} (o : Ordered words a order) where
     pub head-part : {after : ℕ} → n ≡ 0 → Put lent 0 (head_of a (take a.layout.chosen order)) left after
-        → PartPut words (judged.Accepted a) n lent left (record { next = 1; length = after })
+        → PartPut words (Ok a) n lent left (record { next = 1; length = after })
     head-part first p = rw first (record { many = refl; put = rw o.is_in_front at p })
 
     -- no more lines are put than there are transitions
-    pub lines-few : {lines : Lines} → n < pieces (judged.Accepted a) → LinesPut words a (n - 1) lent left lines → n + lines.count ≤ 131072
+    pub lines-few : {lines : Lines} → n < pieces (Ok a) → LinesPut words a (n - 1) lent left lines → n + lines.count ≤ 131072
     lines-few h p =
         let few = few-transitions words a o.accepted in
         let within = fits-within words a.layout (length lent) 0 (n - 1) (a.transitions - (n - 1)) in
         omega (arith, p.many)
 
     pub lines-part : {lines : Lines} → (n ≡ 0 → ⊥) → LinesPut words a (n - 1) lent left lines
-        → PartPut words (judged.Accepted a) n lent left (record { next = n + lines.count; length = lines.length })
+        → PartPut words (Ok a) n lent left (record { next = n + lines.count; length = lines.length })
     lines-part {lines} some p = go n refl some p
       where
         go : (m : ℕ) → n ≡ m → (m ≡ 0 → ⊥) → LinesPut words a (m - 1) lent left lines
-            → PartPut words (judged.Accepted a) m lent left (record { next = m + lines.count; length = lines.length })
+            → PartPut words (Ok a) m lent left (record { next = m + lines.count; length = lines.length })
         go zero e some p = absurd (some refl)
         go (suc k) e some p =
             let one : suc k - 1 ≡ k = omega arith in
@@ -50,14 +50,14 @@ module _ {words lent left : List ℕ} {n : ℕ} where
             record { many = ap (λ (m : ℕ). suc k + m) q.many; put = rw q.many at q.put }
 
 -- how many pieces a part has
-pub part-goes-on : (words : List ℕ) {n : ℕ} (j : Judged) → AcceptedIf words j → (room : ℕ) → room ≡ 65536 → n < pieces j
+pub part-goes-on : (words : List ℕ) {n : ℕ} (j : Result Accepted Refusal) → AcceptedIf words j → (room : ℕ) → room ≡ 65536 → n < pieces j
     → (0 < many_pieces words j room n) × (n + many_pieces words j room n ≤ pieces j)
 part-goes-on words {n} j o room e h = go j o n h
   where
-    go : (j : Judged) → AcceptedIf words j → (n : ℕ) → n < pieces j → (0 < many_pieces words j room n) × (n + many_pieces words j room n ≤ pieces j)
+    go : (j : Result Accepted Refusal) → AcceptedIf words j → (n : ℕ) → n < pieces j → (0 < many_pieces words j room n) × (n + many_pieces words j room n ≤ pieces j)
     go j o zero h = (omega arith, omega arith)
-    go (judged.Refused x) o (suc k) h = absurd (omega arith)
-    go (judged.Accepted a) o (suc k) h =
+    go (Err x) o (suc k) h = absurd (omega arith)
+    go (Ok a) o (suc k) h =
         let some = fits-some words a.layout room k (a.transitions - k) (line-room words a (o a refl) room e) (omega arith) in
         let within = fits-within words a.layout room 0 k (a.transitions - k) in
         (some, omega arith)

@@ -8,13 +8,14 @@ use mathlib.Core.Path.{◌≡◌, refl, sym, ap, ◌∙◌}
 use mathlib.Core.List.{List, [], ◌++◌, append_assoc, append-nil}
 use lib.ListN.{length, take, drop}
 use lib.Seq.{take_at, drop_at}
-use Rattle.strategy.specs.declared.Judged.{Judged}
-use Rattle.strategy.specs.declared.Judged.TheVariants as judged
 use Rattle.listing.specs.Inside.Placed.{placed, Put}
 use Rattle.lister.specs.Listing.{lines_from, first_of, transitions_of, lines_below}
 use Rattle.lister.specs.Inside.Steps.{pieces, pieces_below}
 use Rattle.lister.specs.Inside.Steps.{many_pieces, part_of}
 use Rattle.lister.proofs.LinesPut.{lines_split}
+use Rattle.std.specs.Prelude.{Result, Ok, Err}
+use Rattle.paper.specs.declared.Refusal.{Refusal}
+use Rattle.strategy.specs.declared.Accepted.{Accepted}
 
 -- what is put at the front stands there
 pub put_front : {old text new : List ℕ} {after : ℕ} → Put old 0 text new after → take after new ≡ text
@@ -31,35 +32,35 @@ stands-between before part behind e =
     ∙ ap (take (length part)) (drop_at before (part ++ behind) (length before) refl) ∙ take_at part behind (length part) refl)
 
 module _ (words : List ℕ) where
-  abbrev whole_of : Judged → List ℕ
+  abbrev whole_of : Result Accepted Refusal → List ℕ
   whole_of j = first_of words j ++ lines_below words j (transitions_of j)
 
   -- the part from piece n on follows the pieces below n
-  pub part-follows : (j : Judged) (room n : ℕ) → n < pieces j
+  pub part-follows : (j : Result Accepted Refusal) (room n : ℕ) → n < pieces j
       → pieces_below words j n ++ part_of words j room n ≡ pieces_below words j (n + many_pieces words j room n)
   unfolding lines_from
-  part-follows (judged.Refused x) room zero h = sym (append-nil (first_of words (judged.Refused x)))
-  part-follows (judged.Refused x) room (suc k) h = absurd (omega arith)
-  part-follows (judged.Accepted a) room zero h = sym (append-nil (first_of words (judged.Accepted a)))
-  part-follows (judged.Accepted a) room (suc k) h =
-      let m = many_pieces words (judged.Accepted a) room (suc k) in
-      let f = first_of words (judged.Accepted a) in
+  part-follows (Err x) room zero h = sym (append-nil (first_of words (Err x)))
+  part-follows (Err x) room (suc k) h = absurd (omega arith)
+  part-follows (Ok a) room zero h = sym (append-nil (first_of words (Ok a)))
+  part-follows (Ok a) room (suc k) h =
+      let m = many_pieces words (Ok a) room (suc k) in
+      let f = first_of words (Ok a) in
       append_assoc f (lines_from words a.layout 0 k) (lines_from words a.layout k m)
       ∙ ap (λ (ls : List ℕ). f ++ ls) (sym (lines_split words a.layout k m 0 ∙ rw zero-add))
-      ∙ ap (pieces_below words (judged.Accepted a)) (sym (suc-add k m))
+      ∙ ap (pieces_below words (Ok a)) (sym (suc-add k m))
 
   -- all pieces are the whole
-  pub all-pieces : (j : Judged) → pieces_below words j (pieces j) ≡ whole_of j
+  pub all-pieces : (j : Result Accepted Refusal) → pieces_below words j (pieces j) ≡ whole_of j
   all-pieces j = rw add-one
 
   -- what lies behind the pieces below n
-  pub behind : (j : Judged) (n : ℕ) → n ≤ pieces j → (rest : List ℕ) × (whole_of j ≡ pieces_below words j n ++ rest)
+  pub behind : (j : Result Accepted Refusal) (n : ℕ) → n ≤ pieces j → (rest : List ℕ) × (whole_of j ≡ pieces_below words j n ++ rest)
   behind j zero h = (whole_of j, refl)
-  behind (judged.Refused x) (suc k) h = ([], sym (append-nil (first_of words (judged.Refused x) ++ [])))
-  behind (judged.Accepted a) (suc k) h =
+  behind (Err x) (suc k) h = ([], sym (append-nil (first_of words (Err x) ++ [])))
+  behind (Ok a) (suc k) h =
       let all : a.transitions ≡ k + (a.transitions - k) = omega arith in (
         lines_from words a.layout k (a.transitions - k),
-        ap (λ (n : ℕ). first_of words (judged.Accepted a) ++ lines_from words a.layout 0 n) all
-            ∙ ap (λ (ls : List ℕ). first_of words (judged.Accepted a) ++ ls) (lines_split words a.layout k (a.transitions - k) 0 ∙ rw zero-add)
-            ∙ sym (append_assoc (first_of words (judged.Accepted a)) (lines_from words a.layout 0 k) (lines_from words a.layout k (a.transitions - k))),
+        ap (λ (n : ℕ). first_of words (Ok a) ++ lines_from words a.layout 0 n) all
+            ∙ ap (λ (ls : List ℕ). first_of words (Ok a) ++ ls) (lines_split words a.layout k (a.transitions - k) 0 ∙ rw zero-add)
+            ∙ sym (append_assoc (first_of words (Ok a)) (lines_from words a.layout 0 k) (lines_from words a.layout k (a.transitions - k))),
       )

@@ -7,8 +7,6 @@ use mathlib.Core.Bool.{true, false}
 use mathlib.Core.List.{List, ◌++◌}
 use lib.ListN.{length, take, length-append}
 use lib.Seq.{length-take-le}
-use Rattle.strategy.specs.declared.Judged.{Judged}
-use Rattle.strategy.specs.declared.Judged.TheVariants as judged
 use Rattle.answers.proofs.Accepted.{few-transitions}
 use Rattle.listing.proofs.Placing.{put-length}
 use Rattle.lister.specs.declared.output.Written.{Written}
@@ -19,25 +17,28 @@ use Rattle.lister.specs.Running.{NextPart, HandedOver, Reached}
 use Rattle.lister.specs.Inside.Steps.{AcceptedIf, PartPut, Prepared}
 use Rattle.lister.proofs.Pieces.{put_front, stands-between, part-follows, all-pieces, behind}
 use Rattle.lister.proofs.PartsPut.{part-goes-on}
+use Rattle.std.specs.Prelude.{Result, Ok, Err}
+use Rattle.paper.specs.declared.Refusal.{Refusal}
+use Rattle.strategy.specs.declared.Accepted.{Accepted}
 
-pub record Writing (words : List ℕ) (j : Judged) (text : List ℕ) (n : ℕ) (w : Written) : Type 0 where
+pub record Writing (words : List ℕ) (j : Result Accepted Refusal) (text : List ℕ) (n : ℕ) (w : Written) : Type 0 where
   pub so_far : n ≤ pieces j
   pub taken : w.whole ≡ true
   pub at_is : w.at ≡ length (pieces_below words j n)
   pub low : w.at ≤ 65536 * n
   pub room : length text ≡ 65536
 
-pub writing_begins : {words : List ℕ} {j : Judged} {text : List ℕ} {w : Written} → (w.at ≡ 0) × (w.whole ≡ true) → length text ≡ 65536
+pub writing_begins : {words : List ℕ} {j : Result Accepted Refusal} {text : List ℕ} {w : Written} → (w.at ≡ 0) × (w.whole ≡ true) → length text ≡ 65536
     → Writing words j text 0 w
 writing_begins (at, whole) room = record { so_far = omega arith; taken = whole; at_is = at; low = omega arith; room = room }
 
-module _ {bytes words order : List ℕ} {j : Judged} (p : Prepared bytes words j order) where
+module _ {bytes words order : List ℕ} {j : Result Accepted Refusal} (p : Prepared bytes words j order) where
   pub few-pieces : pieces j ≤ 65536
   few-pieces = go j refl
     where
-      go : (i : Judged) → j ≡ i → pieces i ≤ 65536
-      go (judged.Refused x) e = omega arith
-      go (judged.Accepted a) e = let few = few-transitions words a (p.ordered a e).accepted in omega arith
+      go : (i : Result Accepted Refusal) → j ≡ i → pieces i ≤ 65536
+      go (Err x) e = omega arith
+      go (Ok a) e = let few = few-transitions words a (p.ordered a e).accepted in omega arith
 
   pub are-accepted : AcceptedIf words j
   are-accepted a e = (p.ordered a e).accepted

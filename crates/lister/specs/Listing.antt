@@ -1,16 +1,16 @@
 -- What the lister prints for the bytes that it read (document 01, "A listing, whole", and refusal 17): the lines of crate listing,
 -- filled with what the judgement and the requests answer.
-use Rattle.std.specs.Prelude.{ℕ, zero, suc, List, [], ◌++◌, map}
+use Rattle.std.specs.Prelude.{ℕ, zero, suc, List, [], ◌++◌, map, Result, Ok, Err}
 use Rattle.paper.specs.Transition.{kept_labels}
 use Rattle.table.specs.declared.Layout.{Layout}
 use Rattle.written.specs.Tables.{formula_in}
 use Rattle.strategy.specs.declared.Accepted.{Accepted}
-use Rattle.strategy.specs.declared.Judged.{Judged}
-use Rattle.strategy.specs.declared.Judged.TheVariants as judged
 use Rattle.strategy.specs.Judge.{order_in, proposal_in}
 use Rattle.input.specs.Bytes.{words_of, judged_bytes}
 use Rattle.answers.specs.Requests.{key_of, assigned_of}
 use Rattle.listing.specs.Text.{accepted_line, order_line, transition_line, refused_line}
+use Rattle.paper.specs.declared.Refusal.{Refusal}
+use Rattle.paper.specs.Refusals.{fault_number}
 
 -- the first line, V, N, S and the transitions; then the order
 abbrev pub head_of : Accepted → List ℕ → List ℕ
@@ -27,18 +27,18 @@ module _ (words : List ℕ) (l : Layout) where
   lines_from k (suc more) = line_of k ++ lines_from (suc k) more
 
 -- the first part: one line of a refusal, or the first two lines of an acceptance
-abbrev pub first_of : List ℕ → Judged → List ℕ
-first_of words (judged.Refused r) = refused_line r.number r.place
-first_of words (judged.Accepted a) = head_of a (order_in words a.layout)
+abbrev pub first_of : List ℕ → Result Accepted Refusal → List ℕ
+first_of words (Err r) = refused_line (fault_number r.fault) r.place
+first_of words (Ok a) = head_of a (order_in words a.layout)
 
 -- the rest: of an acceptance a line for each transition
-abbrev pub transitions_of : Judged → ℕ
-transitions_of (judged.Refused r) = 0
-transitions_of (judged.Accepted a) = a.transitions
+abbrev pub transitions_of : Result Accepted Refusal → ℕ
+transitions_of (Err r) = 0
+transitions_of (Ok a) = a.transitions
 
-abbrev pub lines_below : List ℕ → Judged → ℕ → List ℕ
-lines_below words (judged.Refused r) k = []
-lines_below words (judged.Accepted a) k = lines_from words a.layout 0 k
+abbrev pub lines_below : List ℕ → Result Accepted Refusal → ℕ → List ℕ
+lines_below words (Err r) k = []
+lines_below words (Ok a) k = lines_from words a.layout 0 k
 
 -- the whole listing
 abbrev pub listing_of : List ℕ → List ℕ

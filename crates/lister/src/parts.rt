@@ -8,8 +8,9 @@ ghost use Rattle.paper.specs.Limits.{most_bytes, most_transitions};
 use crate::lines::{put_head, put_lines};
 use keys::Distinct;
 use listing::put_refused;
+use paper::Refusal;
 use paper::limits::MOST_ROWS;
-use strategy::{Accepted, Judged};
+use strategy::Accepted;
 
 // The number of the piece that comes next, and how many bytes were put.
 #[derive(Clone, Copy)]
@@ -19,13 +20,13 @@ pub struct Part {
 }
 
 // How many pieces the listing has.
-pub fn pieces_of(judged: Judged) -> usize
+pub fn pieces_of(judged: Result<Accepted, Refusal>) -> usize
     requires { pieces judged ≤ most_transitions + 1 }
     ensures { result ≡ pieces judged }
 {
     match judged {
-        Judged::Accepted(a) => a.transitions + 1,
-        Judged::Refused(_) => 1,
+        Ok(a) => a.transitions + 1,
+        Err(_) => 1,
     }
 }
 
@@ -39,8 +40,8 @@ fn put_accepted_part(
     next: usize,
     text: &mut [u8],
 ) -> Part
-    requires { Listable words.now a marks.now own order.now × (next < pieces (Judged.Accepted a)) × (length text.old ≡ most_bytes) }
-    ensures { PartPut words.now (Judged.Accepted a) next text.old text.new result }
+    requires { Listable words.now a marks.now own order.now × (next < pieces (Ok a)) × (length text.old ≡ most_bytes) }
+    ensures { PartPut words.now (Ok a) next text.old text.new result }
 {
     if next == 0 {
         let length = put_head(a, order, text);
@@ -56,7 +57,7 @@ fn put_accepted_part(
 // The part of the listing that begins with piece `next`.
 pub fn put_part(
     words: &[u16],
-    judged: Judged,
+    judged: Result<Accepted, Refusal>,
     marks: &[u8; MOST_ROWS],
     own: Distinct,
     order: &[u16],
@@ -67,10 +68,10 @@ pub fn put_part(
     ensures { PartPut words.now judged next text.old text.new result }
 {
     match judged {
-        Judged::Accepted(a) => put_accepted_part(words, a, marks, own, order, next, text),
-        Judged::Refused(r) => Part {
+        Ok(a) => put_accepted_part(words, a, marks, own, order, next, text),
+        Err(r) => Part {
             next: 1,
-            length: put_refused(text, 0, r.number, r.place),
+            length: put_refused(text, 0, u8::from(r.fault), r.place),
         },
     }
 }

@@ -6,8 +6,9 @@ ghost use Rattle.lister.specs.Inside.Steps.{Prepared};
 use crate::basis::basis_if_accepted;
 use crate::output::{Written, is_whole, nothing_yet, write_next};
 use crate::parts::{pieces_of, put_part};
+use paper::Refusal;
 use paper::limits::MOST_BYTES;
-use strategy::Judged;
+use strategy::Accepted;
 
 // Writes the listing of the bytes, whose words these are and which are judged so, with the order that is reported: all of it, in order,
 // each part once, for as long as the writing call takes what it is given.
@@ -15,7 +16,7 @@ pub fn write_listing(
     rt: &impl Print,
     bytes: &[u8],
     words: &[u16],
-    judged: Judged,
+    judged: Result<Accepted, Refusal>,
     order: &[u16],
 ) -> Written
     requires { Prepared bytes.now words.now judged order.now }

@@ -4,14 +4,14 @@ use native.Mathlib.Omega.{arith}
 use mathlib.Core.Path.{◌≡◌, refl}
 use Rattle.paper.specs.Limits.{most_rows}
 use Rattle.paper.specs.declared.Refusal.{Refusal}
+use Rattle.paper.specs.Refusals.{fault_number}
 use Rattle.filling.specs.declared.Length.{Length}
-use Rattle.filling.specs.declared.Filled.TheVariants as filled
 use Rattle.answers.specs.declared.Counts.{Counts}
-use Rattle.answers.specs.declared.Answer.TheVariants as answer
 use Rattle.answers.specs.Inside.Judged.{FitCounts}
 use Rattle.nocturenc.specs.Packed.{refused_as, counts_of, packed_answer, packed_filled, ReadRefusal, ReadFilling, AnswerPacked}
+use Rattle.std.specs.Prelude.{Ok, Err}
 
-pub read-counts : (c : Counts) (n : ℕ) → FitCounts c → n ≡ counts_of c → AnswerPacked (answer.Accepted c) n
+pub read-counts : (c : Counts) (n : ℕ) → FitCounts c → n ≡ counts_of c → AnswerPacked (Ok c) n
 unfolding packed_answer
 read-counts c n h e = record {
   answered = e;
@@ -24,15 +24,15 @@ read-counts c n h e = record {
   };
 }
 
-pub read-refused : (r : Refusal) (n : ℕ) → n ≡ refused_as r.number r.place → ReadRefusal r n → AnswerPacked (answer.Refused r) n
+pub read-refused : (r : Refusal) (n : ℕ) → n ≡ refused_as (fault_number r.fault) r.place → ReadRefusal r n → AnswerPacked (Err r) n
 unfolding packed_answer
 read-refused r n e h = record { answered = e; read_so = h }
 
-pub read-filled : (l : Length) → l.count ≤ most_rows → (l.count ≡ packed_filled (filled.Done l)) × ReadFilling (filled.Done l) l.count
+pub read-filled : (l : Length) → l.count ≤ most_rows → (l.count ≡ packed_filled (Ok l)) × ReadFilling (Ok l) l.count
 unfolding packed_filled
 read-filled l h = (refl, record { no_refusal = omega arith; count_is = refl })
 
-pub read-unfilled : (r : Refusal) (n : ℕ) → n ≡ refused_as r.number r.place → ReadRefusal r n
-    → (n ≡ packed_filled (filled.Refused r)) × ReadFilling (filled.Refused r) n
+pub read-unfilled : (r : Refusal) (n : ℕ) → n ≡ refused_as (fault_number r.fault) r.place → ReadRefusal r n
+    → (n ≡ packed_filled (Err r)) × ReadFilling (Err r) n
 unfolding packed_filled
 read-unfilled r n e h = (e, h)

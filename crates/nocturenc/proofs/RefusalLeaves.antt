@@ -4,13 +4,14 @@ use Prim.Native.Nat.{ℕ}
 use mathlib.Core.Path.{◌≡◌}
 use mathlib.Core.List.{List}
 use Rattle.paper.specs.Outcome.{RefusalLeaves}
-use Rattle.filling.specs.Filling.{Outcome, refuses, fills, IsRefusal}
+use Rattle.paper.specs.Refusals.{IsRefusal}
+use Rattle.filling.specs.Filling.{Outcome, refuses, fills}
 use Rattle.filling.proofs.RefusalLeaves.{as_it_was}
 use Rattle.nocturenc.specs.Packed.{IsPackedRefusal, FillsPacked}
 use Rattle.nocturenc.proofs.requests as requests
 use Rattle.nocturenc.proofs.exported as exported
 
-packed-as-it-was : (o : Outcome) {lent left : List ℕ} {n : ℕ} → FillsPacked o lent left n → IsPackedRefusal n → left ≡ lent
+packed-as-it-was : (o : Outcome ℕ) {lent left : List ℕ} {n : ℕ} → FillsPacked o lent left n → IsPackedRefusal n → left ≡ lent
 packed-as-it-was (refuses r) f h = f.left_so
 packed-as-it-was (fills ws) f h = absurd (h f.read_so.no_refusal)
 

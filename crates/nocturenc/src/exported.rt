@@ -3,19 +3,20 @@
 ghost use Rattle.std.specs.Prelude.{◌≡◌, length};
 ghost use Rattle.answers.specs.Requests.{judge_of, order_of, transition_of, assignments_of};
 ghost use Rattle.answers.specs.Inside.Judged.{FitCounts, FitFilled};
+ghost use Rattle.paper.specs.Refusals.{fault_number};
 ghost use Rattle.nocturenc.specs.Packed.{refused_as, counts_of, packed_filled, ReadRefusal, ReadFilling, AnswerPacked, FillsPacked};
 
 use crate::requests::{assignments, judge, order, transition};
-use answers::{Answer, Counts};
-use filling::Filled;
+use answers::Counts;
+use filling::Length;
 use paper::Refusal;
 
 // A refusal: its number in the top byte, its place in the low 32 bits.
 fn packed_refusal(r: Refusal) -> u64
-    ensures value { result ≡ refused_as r.number r.place }
+    ensures value { result ≡ refused_as (fault_number r.fault) r.place }
     ensures read_refusal { ReadRefusal r result }
 {
-    (r.number as u64) * 72057594037927936 + (r.place as u64)
+    u64::from(u8::from(r.fault)) * 72057594037927936 + u64::from(r.place)
 }
 
 // The counts of an accepted table, each in its bits.
@@ -29,14 +30,14 @@ fn packed_counts(c: Counts) -> u64
 }
 
 // The answer of a request that fills.
-fn packed_filled(f: Filled) -> u64
+fn packed_filled(f: Result<Length, Refusal>) -> u64
     requires { FitFilled f }
     ensures value { result ≡ packed_filled f }
     ensures read_filling { ReadFilling f result }
 {
     match f {
-        Filled::Done(l) => l.count as u64,
-        Filled::Refused(r) => packed_refusal(r),
+        Ok(l) => l.count as u64,
+        Err(r) => packed_refusal(r),
     }
 }
 
@@ -44,10 +45,9 @@ fn packed_filled(f: Filled) -> u64
 pub fn nocturenc_judge(words: &[u16]) -> u64
     ensures { AnswerPacked (judge_of words.now) result }
 {
-    let answer = judge(words);
-    match answer {
-        Answer::Accepted(c) => packed_counts(c),
-        Answer::Refused(r) => packed_refusal(r),
+    match judge(words) {
+        Ok(c) => packed_counts(c),
+        Err(r) => packed_refusal(r),
     }
 }
 

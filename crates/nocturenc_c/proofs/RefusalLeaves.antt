@@ -8,7 +8,7 @@ use Rattle.filling.specs.Filling.{Outcome, refuses, fills}
 use Rattle.nocturenc.specs.Packed.{IsPackedRefusal, FillsPacked}
 use Rattle.nocturenc_c.proofs as exported
 
-packed-as-it-was : (o : Outcome) {lent left : List ℕ} {n : ℕ} → FillsPacked o lent left n → IsPackedRefusal n → left ≡ lent
+packed-as-it-was : (o : Outcome ℕ) {lent left : List ℕ} {n : ℕ} → FillsPacked o lent left n → IsPackedRefusal n → left ≡ lent
 packed-as-it-was (refuses r) f h = f.left_so
 packed-as-it-was (fills ws) f h = absurd (h f.read_so.no_refusal)
 

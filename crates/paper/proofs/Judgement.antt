@@ -16,7 +16,10 @@ use Rattle.paper.specs.Before.{before}
 use Rattle.paper.specs.Order.{Chain, on_cycle}
 use Rattle.paper.specs.Strategy.{chosen_on, Strategy, Homogeneous, MinimalCovering}
 use Rattle.paper.specs.Transition.{keys}
-use Rattle.paper.specs.Refusals.{Refusal, refusal, no_order, too_many}
+use Rattle.paper.specs.declared.refusals.Fault.{Fault}
+use Rattle.paper.specs.declared.Refusal.{Refusal}
+use Rattle.paper.specs.declared.refusals.Fault.TheVariants.{NoCandidate, VariableMissed, VariableTwice, NoOrder, TooMany, OddBytes}
+use Rattle.paper.specs.Refusals.{refusal}
 use Rattle.paper.specs.Judgement.{Judgement, accepted, refused, refuse, variables, strangers, missed, doubled, on_cycles, judge}
 use Rattle.paper.specs.Statements.{AcceptedExactly, AcceptedOnlySo, Refusal13, OrderExists}
 use Rattle.paper.proofs.Bools.{not_so}
@@ -28,21 +31,21 @@ use Rattle.paper.proofs.Order.{order-exists, before-between}
 
 -- the refusal that a judgement holds, if any: equal judgements have equal ones
 abbrev refusal_in : Judgement → Refusal
-refusal_in (accepted v n s t) = refusal 0 0
+refusal_in (accepted v n s t) = refusal OddBytes 0
 refusal_in (refused r) = r
 
-same_number : {i j : Judgement} → i ≡ j → (refusal_in i).number ≡ (refusal_in j).number
-same_number e = ap (λ i. (refusal_in i).number) e
+same_fault : {i j : Judgement} → i ≡ j → (refusal_in i).fault ≡ (refusal_in j).fault
+same_fault e = ap (λ i. (refusal_in i).fault) e
 
--- one check, of the offenders xs with the number k
-module _ {A : Type 0} (place : A → ℕ) (k : ℕ) where
+-- one check, of the offenders xs with the fault k
+module _ {A : Type 0} (place : A → ℕ) (k : Fault) where
   passed : (xs : List A) (next : Judgement) {v n s t : ℕ} → refuse k (map place xs) next ≡ accepted v n s t → (xs ≡ []) × (next ≡ accepted v n s t)
   passed [] next e = (refl, e)
   passed (x ∷ xs) next e = let z : ◌≡◌ {A = ℕ} 0 1 = cc in absurd (omega arith)
 
-  not-refused : (xs : List A) (next : Judgement) {m p : ℕ} → (k ≡ m → ⊥) → refuse k (map place xs) next ≡ refused (refusal m p) → next ≡ refused (refusal m p)
+  not-refused : (xs : List A) (next : Judgement) {m : Fault} {p : ℕ} → (k ≡ m → ⊥) → refuse k (map place xs) next ≡ refused (refusal m p) → next ≡ refused (refusal m p)
   not-refused [] next d e = e
-  not-refused (x ∷ xs) next d e = absurd (d (same_number e))
+  not-refused (x ∷ xs) next d e = absurd (d (same_fault e))
 
   refused-at : (xs : List A) (next : Judgement) {p : ℕ} → (next ≡ refused (refusal k p) → ⊥) → refuse k (map place xs) next ≡ refused (refusal k p)
       → (x : A) × (others : List A) × (xs ≡ x ∷ others) × (place x ≡ p)
@@ -69,7 +72,7 @@ module _ (#V : ℕ) (f : Formula) (A : List Label) where
 
   -- the last check, of the number of transitions
   abbrev last_check : Bool → Judgement
-  last_check more = cond more (refused (refusal too_many 0)) (accepted #V (length (labels f)) (length A) (length (keys f A)))
+  last_check more = cond more (refused (refusal TooMany 0)) (accepted #V (length (labels f)) (length A) (length (keys f A)))
 
   at_most : (more : Bool) {v n s t : ℕ} → ltb most_transitions (length (keys f A)) ≡ more → last_check more ≡ accepted v n s t
       → length (keys f A) ≤ most_transitions
@@ -78,10 +81,10 @@ module _ (#V : ℕ) (f : Formula) (A : List Label) where
 
   passes : (v n s t : ℕ) → judge #V f A ≡ accepted v n s t → Passes
   passes v n s t e =
-      let (no_strangers, e₁) = passed (λ l. l.0) 10 (strangers f A) _ e in
-      let (none_missed, e₂) = passed (λ v. v.0) 11 (missed #V f A) _ e₁ in
-      let (none_doubled, e₃) = passed (λ v. v.0) 12 (doubled #V f A) _ e₂ in
-      let (none-on-cycle, e₄) = passed (λ l. l.0) 13 (on_cycles f A) _ e₃ in
+      let (no_strangers, e₁) = passed (λ l. l.0) NoCandidate (strangers f A) _ e in
+      let (none_missed, e₂) = passed (λ v. v.0) VariableMissed (missed #V f A) _ e₁ in
+      let (none_doubled, e₃) = passed (λ v. v.0) VariableTwice (doubled #V f A) _ e₂ in
+      let (none-on-cycle, e₄) = passed (λ l. l.0) NoOrder (on_cycles f A) _ e₃ in
       record { no_strangers = no_strangers; none_missed = none_missed; none_doubled = none_doubled; none-on-cycle = none-on-cycle; fits = at_most _ refl e₄ }
 
   -- a test that no variable passes on any branch
@@ -130,17 +133,17 @@ module _ (#V : ℕ) (f : Formula) (A : List Label) where
   pub accepted-only-so : AcceptedOnlySo #V f A
   accepted-only-so v n s t e = accepts (passes v n s t e)
 
-  last-not-13 : (more : Bool) {p : ℕ} → last_check more ≡ refused (refusal no_order p) → ⊥
-  last-not-13 true e = let z : ◌≡◌ {A = ℕ} 14 13 = same_number e in omega arith
+  last-not-13 : (more : Bool) {p : ℕ} → last_check more ≡ refused (refusal NoOrder p) → ⊥
+  last-not-13 true e = let z : ◌≡◌ {A = Fault} TooMany NoOrder = same_fault e in cc
   last-not-13 false e = let z : ◌≡◌ {A = ℕ} 0 1 = cc in omega arith
 
-  first-on-cycle : (place : ℕ) → judge #V f A ≡ refused (refusal no_order place)
+  first-on-cycle : (place : ℕ) → judge #V f A ≡ refused (refusal NoOrder place)
       → (l : Label) × (others : List Label) × (on_cycles f A ≡ l ∷ others) × (l.0 ≡ place)
   first-on-cycle place e =
-      let e₁ = not-refused (λ l. l.0) 10 (strangers f A) _ (λ q. omega arith) e in
-      let e₂ = not-refused (λ v. v.0) 11 (missed #V f A) _ (λ q. omega arith) e₁ in
-      let e₃ = not-refused (λ v. v.0) 12 (doubled #V f A) _ (λ q. omega arith) e₂ in
-      refused-at (λ l. l.0) 13 (on_cycles f A) _ (last-not-13 (ltb most_transitions (length (keys f A)))) e₃
+      let e₁ = not-refused (λ l. l.0) NoCandidate (strangers f A) _ (λ q. cc) e in
+      let e₂ = not-refused (λ v. v.0) VariableMissed (missed #V f A) _ (λ q. cc) e₁ in
+      let e₃ = not-refused (λ v. v.0) VariableTwice (doubled #V f A) _ (λ q. cc) e₂ in
+      refused-at (λ l. l.0) NoOrder (on_cycles f A) _ (last-not-13 (ltb most_transitions (length (keys f A)))) e₃
 
   pub refusal-13 : Refusal13 #V f A
   refusal-13 rises place e =

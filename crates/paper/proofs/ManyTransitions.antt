@@ -16,7 +16,8 @@ use Rattle.paper.specs.Order.{leads}
 use Rattle.paper.specs.Strategy.{chosen_on, MinimalCovering}
 use Rattle.paper.specs.Transition.{keys}
 use Rattle.paper.specs.Limits.{most_transitions}
-use Rattle.paper.specs.Refusals.{refusal, no_order, too_many}
+use Rattle.paper.specs.declared.refusals.Fault.TheVariants.{NoOrder, TooMany}
+use Rattle.paper.specs.Refusals.{refusal}
 use Rattle.paper.specs.Judgement.{accepted, refused, variables, strangers, missed, doubled, on_cycles, judge_order, judge}
 use Rattle.paper.specs.Inside.Structure.Cover.{cover_of}
 use Rattle.paper.specs.Inside.Structure.KeyCount.{number_of}
@@ -111,7 +112,7 @@ module _ (f : Formula) (A : List Label) (quiet : silent f ≡ true) where
 
 -- the judgement, where no star reads anything
 judged-by-count : (#V : ℕ) (f : Formula) (A : List Label) → WellFormed #V f → is_covered #V f A ≡ true → silent f ≡ true
-    → (n : ℕ) → number_of A f ≡ n → judge #V f A ≡ cond (ltb most_transitions n) (refused (refusal too_many 0)) (accepted #V (length (labels f)) (length A) n)
+    → (n : ℕ) → number_of A f ≡ n → judge #V f A ≡ cond (ltb most_transitions n) (refused (refusal TooMany 0)) (accepted #V (length (labels f)) (length A) n)
 judged-by-count #V f A formed covered quiet n e =
     passes-12 #V f A formed covered ∙ rw (no-cycles f A quiet) (rw (count_is #V f A formed covered ∙ e))
 
@@ -120,7 +121,7 @@ first-of-those : (p : Label → Bool) {A : List Label} {l : Label} {ls : List La
 first-of-those p e h = rw (e, h)
 
 judged-by-cycle : (#V : ℕ) (f : Formula) (A : List Label) (l : Label) (ls : List Label) → A ≡ l ∷ ls → WellFormed #V f → is_covered #V f A ≡ true
-    → before f A l l ≡ true → judge #V f A ≡ refused (refusal no_order l.0)
+    → before f A l l ≡ true → judge #V f A ≡ refused (refusal NoOrder l.0)
 judged-by-cycle #V f A l ls e formed covered cycle =
     passes-12 #V f A formed covered ∙ rw (first-of-those (λ l. leads (before f A) A l l) e (self-lead (before f A) l cycle A))
 
@@ -129,11 +130,11 @@ pub four-accepted : judge 4 four_choices all_of_four ≡ accepted 4 569 282 6553
 four-accepted = judged-by-count 4 four_choices all_of_four (of-well-formed 4 four_choices refl) refl refl 65535 refl
 
 -- Sixteen disjunctions of two: 14.
-pub sixteen-refused : judge 16 sixteen_choices all_of_sixteen ≡ refused (refusal too_many 0)
+pub sixteen-refused : judge 16 sixteen_choices all_of_sixteen ≡ refused (refusal TooMany 0)
 sixteen-refused = judged-by-count 16 sixteen_choices all_of_sixteen (of-well-formed 16 sixteen_choices refl) refl refl 65536 refl
 
 -- A cycle shows before that: there are as many keys, and it is 13 at 2.
-pub cycle-first : judge 16 sixteen_in_cycle all_of_sixteen ≡ refused (refusal no_order 2)
+pub cycle-first : judge 16 sixteen_in_cycle all_of_sixteen ≡ refused (refusal NoOrder 2)
 cycle-first = judged-by-cycle 16 sixteen_in_cycle all_of_sixteen (ℓ 2) (drop 1 all_of_sixteen) refl (of-well-formed 16 sixteen_in_cycle refl) refl refl
 
 pub as-many-keys : length (keys sixteen_in_cycle all_of_sixteen) ≡ 65536

@@ -8,7 +8,8 @@ use Rattle.paper.specs.Lists.{those}
 use Rattle.paper.specs.Formula.{Label, ℓ, 𝓋, has, Star, Formula, FALSE, test, candidate, conjunction, disjunction, exists, IF, only, ◌⨾◌}
 use Rattle.paper.specs.Strategy.{reported_order}
 use Rattle.paper.specs.Transition.{keys, kept_labels}
-use Rattle.paper.specs.Refusals.{Refusal, refusal}
+use Rattle.paper.specs.declared.Refusal.{Refusal}
+use Rattle.paper.specs.Refusals.{refusal, fault_of}
 use Rattle.paper.specs.Judgement.{Judgement, accepted, refused, judge}
 
 -- a transition as the listing shows it: its chosen labels in reported order, its kept labels ascending
@@ -39,7 +40,7 @@ abbrev pub refusing : Refusal → Answer
 refusing r = record { judgement = refused r; order = []; transitions = [] }
 
 abbrev pub refused_with : ℕ → ℕ → Answer
-refused_with number place = refusing (refusal number place)
+refused_with number place = refusing (refusal (fault_of number) place)
 
 abbrev pub numbers : List Label → List ℕ
 numbers = map (λ l. l.0)

@@ -10,7 +10,7 @@ use Rattle.paper.specs.Strategy.{reported_order}
 use Rattle.paper.specs.Transition.{slice_by, is_lower, keys, transitions}
 use Rattle.paper.specs.Meaning.{Meaning, True}
 use Rattle.paper.specs.Carry.{Carried, unset}
-use Rattle.paper.specs.Refusals.{refusal}
+use Rattle.paper.specs.Refusals.{refusal, fault_of}
 use Rattle.paper.specs.Judgement.{accepted, refused, judge}
 use Rattle.paper.specs.Cases.{numbered, star, assign, twice}
 
@@ -175,9 +175,9 @@ crowded = conjunction (ℓ 0) (assign 1 0 (0 ∷ []) ⨾ assign 3 0 [] ⨾ assig
 
 pub record Places : Type 0 where
   -- not: the highest offender
-  pub strangers_lowest : judge 2 crowded (numbered (1 ∷ 2 ∷ 5 ∷ 6 ∷ [])) ≡ refused (refusal 10 2)
-  pub missed_lowest : judge 2 crowded [] ≡ refused (refusal 11 0)
-  pub doubled_lowest : judge 2 crowded (numbered (1 ∷ 3 ∷ 5 ∷ 7 ∷ [])) ≡ refused (refusal 12 0)
-  pub on_cycle_lowest : judge 2 crowded (numbered (1 ∷ 5 ∷ [])) ≡ refused (refusal 13 1)
+  pub strangers_lowest : judge 2 crowded (numbered (1 ∷ 2 ∷ 5 ∷ 6 ∷ [])) ≡ refused (refusal (fault_of 10) 2)
+  pub missed_lowest : judge 2 crowded [] ≡ refused (refusal (fault_of 11) 0)
+  pub doubled_lowest : judge 2 crowded (numbered (1 ∷ 3 ∷ 5 ∷ 7 ∷ [])) ≡ refused (refusal (fault_of 12) 0)
+  pub on_cycle_lowest : judge 2 crowded (numbered (1 ∷ 5 ∷ [])) ≡ refused (refusal (fault_of 13) 1)
   -- not: a label that hangs on a cycle, as 1 in y' in s(x) and x' in s(x)
-  pub not_hanging_on_one : judge 2 (conjunction (ℓ 0) (assign 1 1 (0 ∷ []) ⨾ only (assign 3 0 (0 ∷ [])))) (numbered (1 ∷ 3 ∷ [])) ≡ refused (refusal 13 3)
+  pub not_hanging_on_one : judge 2 (conjunction (ℓ 0) (assign 1 1 (0 ∷ []) ⨾ only (assign 3 0 (0 ∷ [])))) (numbered (1 ∷ 3 ∷ [])) ≡ refused (refusal (fault_of 13) 3)

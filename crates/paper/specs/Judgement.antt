@@ -1,7 +1,10 @@
 -- The judgement of a formula with #V variables and a proposed strategy A, whose labels ascend
 -- (document 01, refusals 10 to 14, in the order of checks).
 use Rattle.std.specs.Prelude.{ℕ, zero, suc, cond, not, List, [], ◌∷◌, ◌++◌, map, eqb, ltb, length}
-use Rattle.paper.specs.Refusals.{Refusal, refusal, no_candidate, no_order, too_many, variable_missed, variable_twice}
+use Rattle.paper.specs.declared.refusals.Fault.{Fault}
+use Rattle.paper.specs.declared.Refusal.{Refusal}
+use Rattle.paper.specs.declared.refusals.Fault.TheVariants.{NoCandidate, NoOrder, TooMany, VariableMissed, VariableTwice}
+use Rattle.paper.specs.Refusals.{refusal}
 use Rattle.paper.specs.Limits.{most_transitions}
 use Rattle.paper.specs.Lists.{any_of, those}
 use Rattle.paper.specs.Formula.{Label, Variable, 𝓋, Formula, labels, is_candidate}
@@ -17,9 +20,9 @@ pub data Judgement : Type 0 where
   refused : Refusal → Judgement
 
 -- refused at the first offender, or else what follows
-abbrev pub refuse : ℕ → List ℕ → Judgement → Judgement
-refuse number [] next = next
-refuse number (place ∷ others) next = refused (refusal number place)
+abbrev pub refuse : Fault → List ℕ → Judgement → Judgement
+refuse fault [] next = next
+refuse fault (place ∷ others) next = refused (refusal fault place)
 
 -- the variables 0 to #V - 1
 abbrev pub variables : ℕ → List Variable
@@ -45,16 +48,16 @@ on_cycles f A = those (on_cycle (before f A) A) A
 -- 14, or an acceptance
 abbrev pub judge_count : ℕ → Formula → List Label → Judgement
 judge_count #V f A =
-    cond (ltb most_transitions (length (keys f A))) (refused (refusal too_many 0)) (accepted #V (length (labels f)) (length A) (length (keys f A)))
+    cond (ltb most_transitions (length (keys f A))) (refused (refusal TooMany 0)) (accepted #V (length (labels f)) (length A) (length (keys f A)))
 
 -- 13, and what follows it
 abbrev pub judge_order : ℕ → Formula → List Label → Judgement
-judge_order #V f A = refuse no_order (map (λ l. l.0) (on_cycles f A)) (judge_count #V f A)
+judge_order #V f A = refuse NoOrder (map (λ l. l.0) (on_cycles f A)) (judge_count #V f A)
 
 -- 10, 11, 12, and what follows them
 abbrev pub judge : ℕ → Formula → List Label → Judgement
 judge #V f A =
-    refuse no_candidate (map (λ l. l.0) (strangers f A))
-    (refuse variable_missed (map (λ v. v.0) (missed #V f A))
-    (refuse variable_twice (map (λ v. v.0) (doubled #V f A))
+    refuse NoCandidate (map (λ l. l.0) (strangers f A))
+    (refuse VariableMissed (map (λ v. v.0) (missed #V f A))
+    (refuse VariableTwice (map (λ v. v.0) (doubled #V f A))
     (judge_order #V f A)))

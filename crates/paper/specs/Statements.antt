@@ -15,7 +15,8 @@ use Rattle.paper.specs.Strategy.{Homogeneous, MinimalCovering, Strategy, reporte
 use Rattle.paper.specs.Transition.{slice_by, key, class, is_kept, keys, key_at, transitions}
 use Rattle.paper.specs.Meaning.{Meaning, True}
 use Rattle.paper.specs.Carry.{Carried, unset}
-use Rattle.paper.specs.Refusals.{refusal, no_order}
+use Rattle.paper.specs.declared.refusals.Fault.TheVariants.{NoOrder}
+use Rattle.paper.specs.Refusals.{refusal}
 use Rattle.paper.specs.Judgement.{accepted, refused, missed, doubled, judge}
 use Rattle.paper.specs.Inside.Structure.Cover.{cover_of}
 use Rattle.paper.specs.Inside.Structure.KeyCount.{number_of}
@@ -82,7 +83,7 @@ module _ (#V : ℕ) (f : Formula) (A : List Label) where
     pub lowest : (l : Label) → Chain (before f A) l l → place ≤ l.0
 
   abbrev pub Refusal13 : Type 0
-  Refusal13 = Rising 0 A → (place : ℕ) → judge #V f A ≡ refused (refusal no_order place) → LowestOnCycle place
+  Refusal13 = Rising 0 A → (place : ℕ) → judge #V f A ≡ refused (refusal NoOrder place) → LowestOnCycle place
 
 -- An order exists exactly if the greedy order places every label, exactly if there is no cycle, exactly if the test finds
 -- none: for any relation R between labels of A, as "before" is.

@@ -3,7 +3,9 @@
 #![tactic(auto)]
 
 pub mod limits; // the limits of document 01
-pub mod refusals; // the refusal numbers, and the one function that makes a refusal
+pub mod refusals; // the reasons to refuse and their numbers, and the one function that makes a refusal
+
+use refusals::Fault;
 
 // A row's label: its position among the rows of the table (document 001: a label of the set L).
 #[derive(Clone, Copy)]
@@ -13,9 +15,9 @@ pub struct Label(pub u16);
 #[derive(Clone, Copy)]
 pub struct Variable(pub u16);
 
-// A refusal: its number (refusals) and its place, of the sort that document 01 gives for that number.
+// A refusal: the reason for it and its place, of the sort that document 01 gives for the reason's number.
 #[derive(Clone, Copy)]
 pub struct Refusal {
-    pub number: u8,
+    pub fault: Fault,
     pub place: u32,
 }

@@ -1,71 +1,67 @@
-// The refusal numbers, in document 01's order of checks ("Refusal numbers, in the order of checks"), under the names of
-// specs/Refusals.antt; and the refusal with a number and a place.
+// Why words or a request are refused, under the numbers of document 01, in its order of checks ("Refusal numbers, in the order of
+// checks"); and the refusal for a reason, at a place.
 ghost use Rattle.std.specs.Prelude.{◌≡◌, ◌<◌, ◌^◌};
-ghost use Rattle.paper.specs.Refusals.{refusal};
+ghost use Rattle.paper.specs.Refusals.{fault_number, refusal};
+ghost use Rattle.paper.specs.declared.refusals.Fault.{Fault};
 
 use crate::Refusal;
 
-// A count or the rest of its section is absent.
-pub const ABSENT: u8 = 1;
+// A reason to refuse. Its number is what C and the lister show.
+#[derive(Clone, Copy, PartialEq, Eq)]
+pub enum Fault {
+    // a count or the rest of its section is absent
+    Absent = 1,
+    // a count is outside its range
+    CountOutOfRange = 2,
+    // a name is not above the one before
+    NameNotAbove = 4,
+    // a read is V or more
+    ReadBeyond = 5,
+    // a row breaks its rules, depth apart
+    RowBroken = 6,
+    // reads are left over
+    ReadsLeft = 7,
+    // a row is deeper than 64
+    TooDeep = 8,
+    // a strategy entry is N or more, or not above the one before
+    EntryUnfit = 9,
+    // words follow section 4
+    WordsFollow = 3,
+    // a chosen label is no candidate
+    NoCandidate = 10,
+    // a variable has no chosen label on some branch
+    VariableMissed = 11,
+    // a variable has two or more on some branch
+    VariableTwice = 12,
+    // no order exists
+    NoOrder = 13,
+    // more than 65,535 transitions
+    TooMany = 14,
+    // number k is not below the count
+    NoSuchTransition = 15,
+    // transition k has not V chosen labels
+    Uneven = 18,
+    // the lent slice is too short
+    OutTooShort = 16,
+    // the lister was given an odd number of bytes
+    OddBytes = 17,
+}
 
-// A count is outside its range.
-pub const COUNT_OUT_OF_RANGE: u8 = 2;
+impl From<Fault> for u8 {
+    ghost from_gives = { λ f n. n ≡ fault_number f };
 
-// A name is not above the one before.
-pub const NAME_NOT_ABOVE: u8 = 4;
+    fn from(fault: Fault) -> u8 {
+        fault as u8
+    }
+}
 
-// A read is V or more.
-pub const READ_BEYOND: u8 = 5;
-
-// A row breaks its rules, depth apart.
-pub const ROW_BROKEN: u8 = 6;
-
-// Reads are left over.
-pub const READS_LEFT: u8 = 7;
-
-// A row is deeper than 64.
-pub const TOO_DEEP: u8 = 8;
-
-// A strategy entry is N or more, or not above the one before.
-pub const ENTRY_UNFIT: u8 = 9;
-
-// Words follow section 4.
-pub const WORDS_FOLLOW: u8 = 3;
-
-// A chosen label is no candidate.
-pub const NO_CANDIDATE: u8 = 10;
-
-// A variable has no chosen label on some branch.
-pub const VARIABLE_MISSED: u8 = 11;
-
-// A variable has two or more on some branch.
-pub const VARIABLE_TWICE: u8 = 12;
-
-// No order exists.
-pub const NO_ORDER: u8 = 13;
-
-// More than 65,535 transitions.
-pub const TOO_MANY: u8 = 14;
-
-// Number k is not below the count.
-pub const NO_SUCH_TRANSITION: u8 = 15;
-
-// Transition k has not V chosen labels.
-pub const UNEVEN: u8 = 18;
-
-// The lent slice is too short.
-pub const OUT_TOO_SHORT: u8 = 16;
-
-// The lister was given an odd number of bytes.
-pub const ODD_BYTES: u8 = 17;
-
-// The refusal with this number, at this place. Every refusal is made here.
-pub fn refusal_at(number: u8, place: usize) -> Refusal
+// The refusal for this reason, at this place. Every refusal is made here.
+pub fn refusal_at(fault: Fault, place: usize) -> Refusal
     requires { place < 2 ^ 32 }
-    ensures { result ≡ refusal number place }
+    ensures { result ≡ refusal fault place }
 {
     Refusal {
-        number,
+        fault,
         place: place as u32,
     }
 }

@@ -6,15 +6,15 @@ use mathlib.Core.Path.{◌≡◌, refl}
 use Rattle.paper.specs.Formula.{ℓ}
 use Rattle.sections.specs.Sections.{open_at}
 use Rattle.written.specs.Example.{words_of_p}
-use Rattle.reader.specs.declared.Found.{Found}
-use Rattle.reader.specs.declared.Found.TheVariants.{Here, Absent}
 use Rattle.reader.specs.Reading.{behind_rows, row_at, past_at, row_past}
+use Rattle.std.specs.Prelude.{Option, Some, None}
+use Rattle.reader.specs.declared.Row.{Row}
 
-abbrev row : ℕ → ℕ → ℕ → ℕ → ℕ → Found
-row label kind arg end from = Here (record { label = ℓ label; kind = kind; arg = arg; end = ℓ end; from = from })
+abbrev row : ℕ → ℕ → ℕ → ℕ → ℕ → Option Row
+row label kind arg end from = Some (record { label = ℓ label; kind = kind; arg = arg; end = ℓ end; from = from })
 
 pub P-is-read : map (row_at words_of_p) (0 ∷ 1 ∷ 2 ∷ 3 ∷ 4 ∷ 5 ∷ 6 ∷ 7 ∷ 8 ∷ 65536 ∷ [])
-    ≡ row 0 3 2 8 0 ∷ row 1 2 0 3 0 ∷ row 2 1 0 3 0 ∷ row 3 4 2 8 0 ∷ row 4 2 1 6 0 ∷ row 5 1 1 6 0 ∷ row 6 2 1 8 1 ∷ row 7 1 0 8 1 ∷ Absent ∷ Absent ∷ []
+    ≡ row 0 3 2 8 0 ∷ row 1 2 0 3 0 ∷ row 2 1 0 3 0 ∷ row 3 4 2 8 0 ∷ row 4 2 1 6 0 ∷ row 5 1 1 6 0 ∷ row 6 2 1 8 1 ∷ row 7 1 0 8 1 ∷ None ∷ None ∷ []
 unfolding open_at behind_rows row_at
 P-is-read = refl
 
@@ -31,6 +31,6 @@ pub bad-ends-are-passed : map (past_at bad_ends) (0 ∷ 1 ∷ 2 ∷ 3 ∷ 9 ∷ 
 unfolding open_at behind_rows row_at past_at
 bad-ends-are-passed = refl
 
-pub rows-past-bad-ends : map (row_past bad_ends) (0 ∷ 1 ∷ 2 ∷ []) ≡ Absent ∷ row 2 0 0 1 0 ∷ Absent ∷ []
+pub rows-past-bad-ends : map (row_past bad_ends) (0 ∷ 1 ∷ 2 ∷ []) ≡ None ∷ row 2 0 0 1 0 ∷ None ∷ []
 unfolding open_at behind_rows row_at past_at
 rows-past-bad-ends = refl

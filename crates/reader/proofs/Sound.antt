@@ -12,7 +12,6 @@ use lib.Seq.{get_or-drop}
 use Rattle.paper.specs.Limits.{most_reads, most_rows, most_variables}
 use Rattle.sections.specs.declared.Cursor.{Cursor}
 use Rattle.table.specs.declared.Layout.{Layout}
-use Rattle.sections.specs.declared.Step.TheVariants.{Next}
 use Rattle.rows.specs.Rows.{end_of}
 use Rattle.sections.specs.Sections.{start, open_at}
 use Rattle.table.specs.Table.{part_at, rows_in}
@@ -20,9 +19,9 @@ use Rattle.sections.proofs.Opened.{behind, of-opened}
 use Rattle.table.proofs.Laid.{Laid}
 use Rattle.table.proofs.LaidExactly.{accepted}
 use Rattle.written.proofs.Tables.{understood}
-use Rattle.reader.specs.declared.Found.TheVariants.{Here, Absent}
 use Rattle.reader.specs.Reading.{behind_rows, rows_before, row_of, row_at, past_at}
 use Rattle.reader.specs.Statements.{SoundRows, PastRises}
+use Rattle.std.specs.Prelude.{Some, None, Ok}
 
 -- the count word of a part
 count_at : (words : List ℕ) (p q n : ℕ) → p ≡ q → get_or words q 0 ≡ n → get_or (drop p words) 0 0 ≡ n
@@ -39,13 +38,13 @@ module _ (words : List ℕ) (l : Layout) (h : Laid words l) where
   abbrev c : Cursor
   c = behind b 4 l.rows
 
-  opens-1 : open_at words start 1 most_variables 1 ≡ Next a
+  opens-1 : open_at words start 1 most_variables 1 ≡ Ok a
   opens-1 =
       let all = h.all_words in
       of-opened words start 1 most_variables 1 l.variables
       (record { word = h.names.counted; least = h.names.some; most = h.names.most; room = omega arith })
 
-  opens-2 : open_at (part_at words a) a 0 most_reads 1 ≡ Next b
+  opens-2 : open_at (part_at words a) a 0 most_reads 1 ≡ Ok b
   opens-2 =
       let all = h.all_words in
       of-opened (part_at words a) a 0 most_reads 1 l.reads
@@ -56,7 +55,7 @@ module _ (words : List ℕ) (l : Layout) (h : Laid words l) where
         room = omega (arith, length-drop a.at words);
       })
 
-  opens-3 : open_at (part_at words b) b 1 most_rows 4 ≡ Next c
+  opens-3 : open_at (part_at words b) b 1 most_rows 4 ≡ Ok c
   opens-3 =
       let all = h.all_words in
       of-opened (part_at words b) b 1 most_rows 4 l.rows
@@ -67,7 +66,7 @@ module _ (words : List ℕ) (l : Layout) (h : Laid words l) where
         room = omega (arith, length-drop b.at words);
       })
 
-  behind-them : behind_rows words ≡ Next c
+  behind-them : behind_rows words ≡ Ok c
   unfolding behind_rows
   behind-them = rw (opens-1, opens-2) opens-3
 
@@ -77,11 +76,11 @@ module _ (words : List ℕ) (l : Layout) (h : Laid words l) where
       let e : c.at - 4 * c.count ≡ l.rows_at = omega arith in
       ap (λ k. drop k words) e
 
-  is-here : (i : ℕ) → i < l.rows → row_at words i ≡ Here (row_of (rows_in words l) i)
+  is-here : (i : ℕ) → i < l.rows → row_at words i ≡ Some (row_of (rows_in words l) i)
   unfolding row_at
-  is-here i k = rw (behind-them, lt-ltb i l.rows k) (ap (λ rows. Here (row_of rows i)) rows_are)
+  is-here i k = rw (behind-them, lt-ltb i l.rows k) (ap (λ rows. Some (row_of rows i)) rows_are)
 
-  is-absent : (i : ℕ) → l.rows ≤ i → row_at words i ≡ Absent
+  is-absent : (i : ℕ) → l.rows ≤ i → row_at words i ≡ None
   unfolding row_at
   is-absent i k = rw (behind-them, le-ltb i l.rows k)
 

@@ -21,13 +21,6 @@ pub struct Row {
     pub from: u16,
 }
 
-// What stands at a place: a row, or none.
-#[derive(Clone, Copy)]
-pub enum Found {
-    Here(Row),
-    Absent,
-}
-
 // The lent words and a place, which is a label: "A row's label is its position 0 to N-1."
 #[derive(Clone, Copy)]
 pub struct Reader<'a> {
@@ -44,7 +37,7 @@ impl<'a> Reader<'a> {
     }
 
     // The row where the reader stands.
-    pub fn row(self) -> Found
+    pub fn row(self) -> Option<Row>
         ensures { result ≡ row_at self.entry.words.now self.entry.at }
     {
         row_at(self.words, self.at)
@@ -62,14 +55,14 @@ impl<'a> Reader<'a> {
 }
 
 // The row with this label.
-pub fn row_of(words: &[u16], label: usize) -> Found
+pub fn row_of(words: &[u16], label: usize) -> Option<Row>
     ensures { result ≡ row_at words.now label }
 {
     Reader::new(words, label).row()
 }
 
 // The row behind the subtree of the row with this label.
-pub fn row_past(words: &[u16], label: usize) -> Found
+pub fn row_past(words: &[u16], label: usize) -> Option<Row>
     ensures { result ≡ row_past words.now label }
 {
     Reader::new(words, label).past().row()

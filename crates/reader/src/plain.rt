@@ -3,47 +3,38 @@
 ghost use Rattle.std.specs.Prelude.{◌≡◌};
 ghost use Rattle.reader.specs.Reading.{behind_rows, row_at, past_at};
 
-use crate::{Found, Row};
-use entries::wide;
-use paper::Label;
+use crate::Row;
+use paper::{Label, Refusal};
 use paper::limits::{MOST_READS, MOST_ROWS, MOST_VARIABLES};
 use rows::{arg_of, end_of, from_of, kind_of};
-use sections::{Cursor, Step};
+use sections::Cursor;
 
 // The cursor behind the rows, or the refusal, 1 or 2, of a count.
-pub fn behind_rows(words: &[u16]) -> Step
+pub fn behind_rows(words: &[u16]) -> Result<Cursor, Refusal>
     ensures { result ≡ behind_rows words.now }
 {
-    let start = Cursor::new();
-    let first = start.open(words, 1, MOST_VARIABLES, 1);
-    let Step::Next(one) = first else {
-        return first;
-    };
+    let one = Cursor::new().open(words, 1, MOST_VARIABLES, 1)?;
     let a = one.at;
-    let second = one.open(&words[a..], 0, MOST_READS, 1);
-    let Step::Next(two) = second else {
-        return second;
-    };
+    let two = one.open(&words[a..], 0, MOST_READS, 1)?;
     let b = two.at;
     two.open(&words[b..], 1, MOST_ROWS, 4)
 }
 
 // The row with this label, where there is one.
-pub fn row_at(words: &[u16], label: usize) -> Found
+pub fn row_at(words: &[u16], label: usize) -> Option<Row>
     ensures { result ≡ row_at words.now label }
 {
-    let opened = behind_rows(words);
-    let Step::Next(c) = opened else {
-        return Found::Absent;
+    let Ok(c) = behind_rows(words) else {
+        return None;
     };
     let n = c.count;
     if n <= label {
-        return Found::Absent;
+        return None;
     }
     let first = c.at - 4 * n;
     let rows = &words[first..];
     let i = Label(label as u16);
-    Found::Here(Row {
+    Some(Row {
         label: i,
         kind: kind_of(rows, i),
         arg: arg_of(rows, i),
@@ -57,13 +48,9 @@ pub fn row_at(words: &[u16], label: usize) -> Found
 pub fn past_at(words: &[u16], label: usize) -> usize
     ensures { result ≡ past_at words.now label }
 {
-    let found = row_at(words, label);
-    let Found::Here(row) = found else {
+    let Some(row) = row_at(words, label) else {
         return label;
     };
-    let end = wide(row.end.0);
-    if label < end {
-        return end;
-    }
-    label + 1
+    let end = usize::from(row.end.0);
+    if label < end { end } else { label + 1 }
 }

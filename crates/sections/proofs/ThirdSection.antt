@@ -8,10 +8,9 @@ use mathlib.Core.List.{List}
 use mathlib.Core.Path.{◌≡◌}
 use borrow.Author.Tests.{lt-ltb, le-ltb, not-false}
 use lib.ListN.{length, get_or, drop}
-use Rattle.paper.specs.Refusals.{reads_left, row_broken, too_deep}
+use Rattle.paper.specs.declared.refusals.Fault.TheVariants.{ReadsLeft, RowBroken, TooDeep}
 use Rattle.paper.specs.Limits.{most_rows}
 use Rattle.sections.specs.declared.Cursor.{Cursor}
-use Rattle.sections.specs.declared.Step.TheVariants.{Next}
 use Rattle.entries.specs.First.{first}
 use Rattle.rows.specs.Rows.{kind_of, arg_of, taken_before, keeps_rules, breaks_rules, depth_of, is_deep}
 use Rattle.rows.specs.Inside.Looks.{Nested}
@@ -20,6 +19,7 @@ use Rattle.entries.proofs.First.{first-le, first-all}
 use Rattle.rows.proofs.Taken.{takes-le, taken-there}
 use Rattle.rows.proofs.Nested.{nested}
 use Rattle.rows.proofs.Depths.{top-depth}
+use Rattle.std.specs.Prelude.{Ok}
 
 -- rows of which none breaks its rules; they take no reads that are not there
 module _ (rows reads : List ℕ) (#V #N : ℕ) where
@@ -45,24 +45,24 @@ taken-small rows h zero = omega arith
 taken-small rows h (suc n) = omega (arith, taken-small rows h n, takes-le (kind_of rows n) (arg_of rows n), h (4 * n + 1))
 
 -- The answers of a part that opened with cursor m: the first search, the reads left over, the second search.
-module _ (part reads : List ℕ) (c m : Cursor) (came : open_at part c 1 most_rows 4 ≡ Next m) (k : ℕ)
+module _ (part reads : List ℕ) (c m : Cursor) (came : open_at part c 1 most_rows 4 ≡ Ok m) (k : ℕ)
     (lowest : k ≡ first (breaks_rules (drop 1 part) reads c.variables m.count) m.count) where
-  pub some-broken : k < m.count → rows_at part reads c ≡ halt row_broken k
+  pub some-broken : k < m.count → rows_at part reads c ≡ halt RowBroken k
   unfolding rows_at
   some-broken h = rw (came, ← lowest, lt-ltb k m.count h, zero-add k)
 
   module _ (whole : m.count ≤ k) (t : ℕ) (taken : t ≡ taken_before (drop 1 part) m.count) where
-    pub some_left : t < c.reads → rows_at part reads c ≡ halt reads_left t
+    pub some_left : t < c.reads → rows_at part reads c ≡ halt ReadsLeft t
     unfolding rows_at
     some_left h = rw (came, ← lowest, le-ltb k m.count whole, ← taken, lt-ltb t c.reads h)
 
     module _ (all : c.reads ≤ t) (j : ℕ) (lowest-deep : j ≡ first (is_deep (drop 1 part)) m.count) where
-      pub some-deep : j < m.count → rows_at part reads c ≡ halt too_deep j
+      pub some-deep : j < m.count → rows_at part reads c ≡ halt TooDeep j
       unfolding rows_at
       some-deep h =
           rw (came, ← lowest, le-ltb k m.count whole, ← taken, le-ltb t c.reads all, ← lowest-deep, lt-ltb j m.count h, zero-add j)
 
       pub none_deep : m.count ≤ j
-          → rows_at part reads c ≡ Next (record { at = m.at; count = m.count; variables = m.variables; reads = m.reads; rows = m.count })
+          → rows_at part reads c ≡ Ok (record { at = m.at; count = m.count; variables = m.variables; reads = m.reads; rows = m.count })
       unfolding rows_at
       none_deep h = rw (came, ← lowest, le-ltb k m.count whole, ← taken, le-ltb t c.reads all, ← lowest-deep, le-ltb j m.count h)

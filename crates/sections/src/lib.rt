@@ -2,21 +2,18 @@
 // and wholly checked before the next: refusals 1, 2, 4, 5, 9 and 3, and 6 to 8 by the rows' own checks.
 #![tactic(auto)]
 
-ghost use Rattle.std.specs.Prelude.{◌≡◌, ◌+◌, ◌*◌, ◌≤◌, ◌<◌, ◌^◌, length};
-ghost use Rattle.sections.specs.Sections.{halt, start, open_at, variables_at, reads_at, rows_at, strategy_at, end_at};
+ghost use Rattle.std.specs.Prelude.{◌≡◌, ◌*◌, ◌≤◌, length};
+ghost use Rattle.sections.specs.Sections.{start, open_at, variables_at, reads_at, rows_at, strategy_at, end_at};
 
-use entries::{first_beyond, first_fall, first_unfit, wide};
+use entries::{first_beyond, first_fall, first_unfit};
 use paper::limits::{MOST_CHOSEN, MOST_DEPTH, MOST_READS, MOST_ROWS, MOST_VARIABLES};
-use paper::refusals::{
-    ABSENT, COUNT_OUT_OF_RANGE, ENTRY_UNFIT, NAME_NOT_ABOVE, READ_BEYOND, READS_LEFT, ROW_BROKEN,
-    TOO_DEEP, WORDS_FOLLOW, refusal_at,
-};
+use paper::refusals::{Fault, refusal_at};
 use paper::{Label, Refusal};
 use rows::depth::first_deep;
 use rows::{first_broken, reads_taken};
 
 // Between two sections: the position of the next count word, how many entries the section before it has, and
-// V, R and N once they are known.
+// V, R and N once they are known. Checking a section gives the cursor behind it, or a refusal.
 #[derive(Clone, Copy)]
 pub struct Cursor {
     pub at: usize,
@@ -24,21 +21,6 @@ pub struct Cursor {
     pub variables: usize,
     pub reads: usize,
     pub rows: usize,
-}
-
-// What checking a section gives: the cursor behind it, or the refusal.
-#[derive(Clone, Copy)]
-pub enum Step {
-    Next(Cursor),
-    Halt(Refusal),
-}
-
-// A refusal as a step.
-fn refused(number: u8, place: usize) -> Step
-    requires { place < 2 ^ 32 }
-    ensures { result ≡ halt number place }
-{
-    Step::Halt(refusal_at(number, place))
 }
 
 impl Cursor {
@@ -56,141 +38,127 @@ impl Cursor {
     }
 
     // The section's count and its presence.
-    pub fn open(self, part: &[u16], low: usize, high: usize, width: usize) -> Step
+    pub fn open(self, part: &[u16], low: usize, high: usize, width: usize) -> Result<Cursor, Refusal>
         requires { (self.at ≤ 65536) × (high * width ≤ 65536) }
         ensures { result ≡ open_at part.now self low high width }
     {
         let at = self.at;
         let present = part.len();
         if present == 0 {
-            return refused(ABSENT, at + present);
+            return Err(refusal_at(Fault::Absent, at + present));
         }
-        let count = wide(part[0]);
+        let count = usize::from(part[0]);
         if count < low {
-            return refused(COUNT_OUT_OF_RANGE, at);
+            return Err(refusal_at(Fault::CountOutOfRange, at));
         }
         if high < count {
-            return refused(COUNT_OUT_OF_RANGE, at);
+            return Err(refusal_at(Fault::CountOutOfRange, at));
         }
         let words = count * width;
         if present - 1 < words {
-            return refused(ABSENT, at + present);
+            return Err(refusal_at(Fault::Absent, at + present));
         }
-        Step::Next(Cursor {
+        Ok(Cursor {
             at: at + 1 + words,
             count,
-            variables: self.variables,
-            reads: self.reads,
-            rows: self.rows,
+            ..self
         })
     }
 
     // Section 1: names, strictly ascending.
-    pub fn variables(self, part: &[u16]) -> Step
+    pub fn variables(self, part: &[u16]) -> Result<Cursor, Refusal>
         requires { self.at ≤ 65536 }
         ensures { result ≡ variables_at part.now self }
     {
         let at = self.at;
         let opened = self.open(part, 1, MOST_VARIABLES, 1);
-        let Step::Next(next) = opened else {
+        let Ok(next) = opened else {
             return opened;
         };
         let n = next.count;
         let k = first_fall(&part[1..], n);
         if k < n {
-            return refused(NAME_NOT_ABOVE, at + 1 + k);
+            return Err(refusal_at(Fault::NameNotAbove, at + 1 + k));
         }
-        Step::Next(Cursor {
-            at: next.at,
-            count: n,
+        Ok(Cursor {
             variables: n,
-            reads: next.reads,
-            rows: next.rows,
+            ..next
         })
     }
 
     // Section 2: reads, each a variable.
-    pub fn reads(self, part: &[u16]) -> Step
+    pub fn reads(self, part: &[u16]) -> Result<Cursor, Refusal>
         requires { self.at ≤ 65536 }
         ensures { result ≡ reads_at part.now self }
     {
         let at = self.at;
         let opened = self.open(part, 0, MOST_READS, 1);
-        let Step::Next(next) = opened else {
+        let Ok(next) = opened else {
             return opened;
         };
         let n = next.count;
         let k = first_beyond(&part[1..], n, self.variables);
         if k < n {
-            return refused(READ_BEYOND, at + 1 + k);
+            return Err(refusal_at(Fault::ReadBeyond, at + 1 + k));
         }
-        Step::Next(Cursor {
-            at: next.at,
-            count: n,
-            variables: next.variables,
-            reads: n,
-            rows: next.rows,
-        })
+        Ok(Cursor { reads: n, ..next })
     }
 
     // Section 3: rows that keep their rules, take all reads and are no deeper than 64.
-    pub fn rows(self, part: &[u16], reads: &[u16]) -> Step
+    pub fn rows(self, part: &[u16], reads: &[u16]) -> Result<Cursor, Refusal>
         requires { (self.at ≤ 65536) × (length reads.now ≡ self.reads) }
         ensures { result ≡ rows_at part.now reads.now self }
     {
         let opened = self.open(part, 1, MOST_ROWS, 4);
-        let Step::Next(next) = opened else {
+        let Ok(next) = opened else {
             return opened;
         };
         let n = next.count as u16;
         let rows = &part[1..];
         let broken = first_broken(rows, reads, self.variables, n);
         if broken.0 < n {
-            return refused(ROW_BROKEN, wide(broken.0));
+            return Err(refusal_at(Fault::RowBroken, usize::from(broken.0)));
         }
         let taken = reads_taken(rows, n);
         if taken < self.reads {
-            return refused(READS_LEFT, taken);
+            return Err(refusal_at(Fault::ReadsLeft, taken));
         }
         let deep = first_deep(rows, n, Label(0), MOST_DEPTH);
         if deep.0 < n {
-            return refused(TOO_DEEP, wide(deep.0));
+            return Err(refusal_at(Fault::TooDeep, usize::from(deep.0)));
         }
-        Step::Next(Cursor {
-            at: next.at,
-            count: next.count,
-            variables: next.variables,
-            reads: next.reads,
+        Ok(Cursor {
             rows: next.count,
+            ..next
         })
     }
 
     // Section 4: labels of rows, strictly ascending.
-    pub fn strategy(self, part: &[u16]) -> Step
+    pub fn strategy(self, part: &[u16]) -> Result<Cursor, Refusal>
         requires { self.at ≤ 65536 }
         ensures { result ≡ strategy_at part.now self }
     {
         let opened = self.open(part, 0, MOST_CHOSEN, 1);
-        let Step::Next(next) = opened else {
+        let Ok(next) = opened else {
             return opened;
         };
         let n = next.count;
         let k = first_unfit(&part[1..], n, self.rows);
         if k < n {
-            return refused(ENTRY_UNFIT, k);
+            return Err(refusal_at(Fault::EntryUnfit, k));
         }
         opened
     }
 
     // Nothing follows.
-    pub fn end(self, present: usize) -> Step
+    pub fn end(self, present: usize) -> Result<Cursor, Refusal>
         requires { self.at ≤ 65536 }
         ensures { result ≡ end_at present self }
     {
         let at = self.at;
         if at < present {
-            return refused(WORDS_FOLLOW, at);
+            return Err(refusal_at(Fault::WordsFollow, at));
         }
-        Step::Next(self)
+        Ok(self)
     }
 }

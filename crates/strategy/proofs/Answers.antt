@@ -4,11 +4,11 @@
 use Prim.Native.Nat.{ℕ, ◌<◌, ◌≤◌}
 use native.Mathlib.Omega.{arith}
 use mathlib.Core.Path.{◌≡◌, refl, sym, ap, subst, ◌∙◌}
-use mathlib.Core.List.{List}
+use mathlib.Core.List.{List, ◌++◌}
 use lib.Dec.{ltb}
-use lib.ListN.{length, get_or, drop, length-append}
+use lib.ListN.{length, get_or, take, drop, length-append}
 use lib.Seq.{take_at}
-use Rattle.paper.specs.Refusals.{no_candidate, no_order, variable_missed, variable_twice}
+use Rattle.paper.specs.declared.refusals.Fault.TheVariants.{NoCandidate, NoOrder, VariableMissed, VariableTwice}
 use Rattle.paper.specs.declared.Refusal.{Refusal}
 use Rattle.paper.specs.Limits.{most_transitions, most_depth, slots}
 use Rattle.paper.specs.declared.Variable.{Variable}
@@ -17,7 +17,6 @@ use Rattle.paper.specs.Judgement.{Judgement, accepted, refused}
 use Rattle.paper.specs.Judgement.{judge_count, judge_order, judge}
 use Rattle.paper.proofs.Numbers.{numbers-say}
 use Rattle.table.specs.declared.Layout.{Layout}
-use Rattle.table.specs.declared.Checked.TheVariants.{Sound, Refused}
 use Rattle.entries.specs.First.{first}
 use Rattle.table.specs.Table.{checked, rows_in, reads_in, chosen_in}
 use Rattle.written.specs.Tables.{formula_in}
@@ -31,10 +30,7 @@ use Rattle.keys.proofs.KeyNumbers.{keys-past-limit, keys-number}
 use Rattle.cycles.specs.Inside.Cyclic.{lowest_on_cycle}
 use Rattle.entries.specs.Front.{in_front}
 use Rattle.ordering.specs.Inside.Reported.{OrderFilled}
-use Rattle.filling.specs.Inside.Copied.{copied}
 use Rattle.strategy.specs.declared.Accepted.{Accepted}
-use Rattle.strategy.specs.declared.Judged.{Judged}
-use Rattle.strategy.specs.declared.Judged.TheVariants as answer
 use Rattle.strategy.specs.Verdict.{refused_at, as_judged}
 use Rattle.paper.proofs.Judgement.{homogeneous-of, minimal-of}
 use Rattle.strategy.specs.Inside.Checks.{is_stranger, counted_as}
@@ -44,6 +40,7 @@ use Rattle.strategy.specs.Inside.Parts.{Parts, formula_of, Covered, JudgedBy, Or
 use Rattle.strategy.proofs.Held.{lent_rows, lent_reads, lent_chosen, of-lent, walkable, few-labels}
 use Rattle.strategy.proofs.Strangers.{first-stranger, no-stranger}
 use Rattle.strategy.proofs.Placed.{choice, some-cycle, reported-length, order-fits, order-refuses, order-passes, order-left}
+use Rattle.std.specs.Prelude.{Result, Ok, Err}
 
 pub count-answers : {rows reads chosen : List ℕ} {#V #N : ℕ} {marks : List ℕ} (l : Layout) → Covered rows reads chosen #V #N → Marked (proposal_of chosen) marks
     → as_judged l (judge_count #V (formula_of rows reads) (proposal_of chosen)) ≡ counted_as l (total (keys_at rows marks most_depth 0))
@@ -64,12 +61,12 @@ module _ (rows reads chosen : List ℕ) where
   abbrev reported : List ℕ
   reported = words_of_order (formula_of rows reads) (proposal_of chosen)
 
-  abbrev left_after : List ℕ → Judged → List ℕ
+  abbrev left_after : List ℕ → Result Accepted Refusal → List ℕ
   left_after lent r = left_by r (λ _. reported) lent
 
 -- A refusal leaves all as it was.
-module _ {rows reads chosen : List ℕ} {l : Layout} {j : Judgement} {r : Judged} where
-  refused-so : {x : Refusal} (lent : List ℕ) → j ≡ refused x → r ≡ answer.Refused x → JudgedBy rows reads chosen l lent lent r j
+module _ {rows reads chosen : List ℕ} {l : Layout} {j : Judgement} {r : Result Accepted Refusal} where
+  refused-so : {x : Refusal} (lent : List ℕ) → j ≡ refused x → r ≡ Err x → JudgedBy rows reads chosen l lent lent r j
   refused-so lent e q = record { answered = q ∙ sym (ap (as_judged l) e); left_so = sym (ap (λ i. left_after rows reads chosen lent (as_judged l i)) e) }
 
 -- The chain, from its end. 13 and 14: the order leaves a cycle, or places all and the transitions are counted.
@@ -78,11 +75,11 @@ module _ {rows reads chosen : List ℕ} (l : Layout) {order₀ order : List ℕ}
   pub cycle-there : {k : ℕ} → count < length chosen → k ≡ lowest_on_cycle rows reads chosen → (k < length chosen) × (length chosen ≤ 2047)
   cycle-there h e = (omega (arith, some-cycle c (omega (arith, filled.number))), (choice c).few)
 
-  pub cycle-refused : {k : ℕ} {r : Judged} (lent : List ℕ) → count < length chosen → k ≡ lowest_on_cycle rows reads chosen
-      → r ≡ refused_at no_order (get_or chosen k 0)
+  pub cycle-refused : {k : ℕ} {r : Result Accepted Refusal} (lent : List ℕ) → count < length chosen → k ≡ lowest_on_cycle rows reads chosen
+      → r ≡ refused_at NoOrder (get_or chosen k 0)
       → OrderedParts rows reads chosen l lent lent r
   cycle-refused lent h e q =
-      refused-so lent (order-refuses c (omega (arith, filled.number))) (q ∙ ap (λ n. refused_at no_order (get_or chosen n 0)) e)
+      refused-so lent (order-refuses c (omega (arith, filled.number))) (q ∙ ap (λ n. refused_at NoOrder (get_or chosen n 0)) e)
 
   many : length (reported rows reads chosen) ≡ count
   many = reported-length c ∙ sym filled.number
@@ -97,21 +94,20 @@ module _ {rows reads chosen : List ℕ} (l : Layout) {order₀ order : List ℕ}
       let k = (choice c).few in
       (omega arith, omega arith, omega arith)
 
-  copied-order : (lent : List ℕ) → copied order count lent ≡ in_front (reported rows reads chosen) lent
-  unfolding copied
+  copied-order : (lent : List ℕ) → take count order ++ drop count lent ≡ in_front (reported rows reads chosen) lent
   copied-order lent =
       rw (order-left c filled, take_at (reported rows reads chosen) (drop (length (reported rows reads chosen)) order₀) count many, many)
 
   -- all are placed, and the count answers
-  module _ {marks : List ℕ} {r : Judged} (all : length chosen ≤ count) (marked : Marked (proposal_of chosen) marks)
+  module _ {marks : List ℕ} {r : Result Accepted Refusal} (all : length chosen ≤ count) (marked : Marked (proposal_of chosen) marks)
       (counted : r ≡ counted_as l (total (keys_at rows marks most_depth 0))) where
     as-judged : r ≡ as_judged l (judge_order l.variables (formula_of rows reads) (proposal_of chosen))
     as-judged = counted ∙ sym (ap (as_judged l) (order-passes c (omega (arith, filled.number))) ∙ count-answers l c marked)
 
-    pub count-refused : {x : Refusal} (lent : List ℕ) → r ≡ answer.Refused x → OrderedParts rows reads chosen l lent lent r
+    pub count-refused : {x : Refusal} (lent : List ℕ) → r ≡ Err x → OrderedParts rows reads chosen l lent lent r
     count-refused lent e = record { answered = as-judged; left_so = ap (left_after rows reads chosen lent) (sym e ∙ as-judged) }
 
-    pub count-accepted : {a : Accepted} {lent left : List ℕ} → r ≡ answer.Accepted a → left ≡ copied order count lent
+    pub count-accepted : {a : Accepted} {lent left : List ℕ} → r ≡ Ok a → left ≡ take count order ++ drop count lent
         → OrderedParts rows reads chosen l lent left r
     count-accepted {lent = lent} e d = record {
       answered = as-judged;
@@ -121,11 +117,11 @@ module _ {rows reads chosen : List ℕ} (l : Layout) {order₀ order : List ℕ}
 -- 10 to 12: refused at a stranger; refused by the covering; or all passed
 module _ {rows reads chosen : List ℕ} (l : Layout) (p : Parts rows reads chosen l.variables l.rows) {k : ℕ}
     (found : k ≡ first (is_stranger rows chosen) (length chosen)) where
-  pub stranger-refused : {r : Judged} (lent : List ℕ) → k < length chosen → r ≡ refused_at no_candidate (get_or chosen k 0)
+  pub stranger-refused : {r : Result Accepted Refusal} (lent : List ℕ) → k < length chosen → r ≡ refused_at NoCandidate (get_or chosen k 0)
       → JudgedParts rows reads chosen l lent lent r
   stranger-refused lent h q =
       let (others, e) = first-stranger p (omega arith) in
-      refused-so lent (rw e) (q ∙ ap (λ n. refused_at no_candidate (get_or chosen n 0)) found)
+      refused-so lent (rw e) (q ∙ ap (λ n. refused_at NoCandidate (get_or chosen n 0)) found)
 
   module _ {marks : List ℕ} (marked : Marked (proposal_of chosen) marks) (passed : length chosen ≤ k) where
     covering-decides : judgement_by rows reads chosen l.variables
@@ -134,11 +130,11 @@ module _ {rows reads chosen : List ℕ} (l : Layout) (p : Parts rows reads chose
         rw (no-stranger p (omega arith))
         (covering-says rows reads refl marked (few-labels p) p.well_formed (judge_order l.variables (formula_of rows reads) (proposal_of chosen)))
 
-    pub missed-refused : {r : Judged} {v : Variable} (lent : List ℕ) → covering_of rows marks l.variables ≡ Missed v → r ≡ refused_at variable_missed v.0
+    pub missed-refused : {r : Result Accepted Refusal} {v : Variable} (lent : List ℕ) → covering_of rows marks l.variables ≡ Missed v → r ≡ refused_at VariableMissed v.0
         → JudgedParts rows reads chosen l lent lent r
     missed-refused lent e q = refused-so lent (covering-decides ∙ rw e) q
 
-    pub doubled-refused : {r : Judged} {v : Variable} (lent : List ℕ) → covering_of rows marks l.variables ≡ Doubled v → r ≡ refused_at variable_twice v.0
+    pub doubled-refused : {r : Result Accepted Refusal} {v : Variable} (lent : List ℕ) → covering_of rows marks l.variables ≡ Doubled v → r ≡ refused_at VariableTwice v.0
         → JudgedParts rows reads chosen l lent lent r
     doubled-refused lent e q = refused-so lent (covering-decides ∙ rw e) q
 
@@ -147,16 +143,16 @@ module _ {rows reads chosen : List ℕ} (l : Layout) (p : Parts rows reads chose
         let (none_missed, none_doubled) = (gives-covered rows reads refl marked (few-labels p) p.well_formed).0 e in
         record { parts = p; no_strangers = no-stranger p (omega arith); none_missed = none_missed; none_doubled = none_doubled }
 
-    pub covered-judged : {r : Judged} {lent left : List ℕ} → covering_of rows marks l.variables ≡ Covering.Covered
+    pub covered-judged : {r : Result Accepted Refusal} {lent left : List ℕ} → covering_of rows marks l.variables ≡ Covering.Covered
         → OrderedParts rows reads chosen l lent left r → JudgedParts rows reads chosen l lent left r
     covered-judged {r} {lent} {left} e o = subst (JudgedBy rows reads chosen l lent left r) (sym (covering-decides ∙ rw e)) o
 
 -- Whole words.
-pub refused-whole : {words : List ℕ} {x : Refusal} (lent : List ℕ) → checked words ≡ Refused x → JudgedInto words lent lent (answer.Refused x)
+pub refused-whole : {words : List ℕ} {x : Refusal} (lent : List ℕ) → checked words ≡ Err x → JudgedInto words lent lent (Err x)
 unfolding judged_of order_left
 refused-whole lent e = record { answered = rw e; left_so = rw e }
 
-judged-whole : {words lent left : List ℕ} {l : Layout} {r : Judged} → checked words ≡ Sound l
+judged-whole : {words lent left : List ℕ} {l : Layout} {r : Result Accepted Refusal} → checked words ≡ Ok l
     → JudgedParts (rows_in words l) (reads_in words l) (chosen_in words l) l lent left r → JudgedInto words lent left r
 unfolding judged_of order_left
 judged-whole {words} {lent} {l = l} e j =
@@ -168,7 +164,7 @@ judged-whole {words} {lent} {l = l} e j =
     same_layout (refused x) = refl
 
 -- the same of the parts as they are lent
-pub judged-lent : {words lent left : List ℕ} {l : Layout} {r : Judged} (e : checked words ≡ Sound l)
+pub judged-lent : {words lent left : List ℕ} {l : Layout} {r : Result Accepted Refusal} (e : checked words ≡ Ok l)
     → JudgedParts (lent_rows words l e) (lent_reads words l e) (lent_chosen words l e) l lent left r → JudgedInto words lent left r
 judged-lent {words} {lent} {left} {l} {r} e j =
     judged-whole e (of-lent words l e (λ rows reads chosen. JudgedParts rows reads chosen l lent left r) j)

@@ -9,13 +9,13 @@ use Rattle.paper.specs.Transition.{keys}
 use Rattle.paper.specs.Judgement.{Judgement, accepted, judge}
 use Rattle.paper.proofs.Judgement as Paper
 use Rattle.table.specs.declared.Layout.{Layout}
-use Rattle.table.specs.declared.Checked.{Checked}
-use Rattle.table.specs.declared.Checked.TheVariants.{Sound, Refused}
 use Rattle.table.specs.Table.{checked}
 use Rattle.written.specs.Tables.{formula_in}
 use Rattle.strategy.specs.Verdict.{accepted_with, as_judged}
 use Rattle.strategy.proofs.Verdicts.{accepting}
 use Rattle.strategy.specs.Judge.{proposal_in, judged_as, judged_of, AcceptedSo, AcceptedExactly}
+use Rattle.std.specs.Prelude.{Result, Ok, Err}
+use Rattle.paper.specs.declared.Refusal.{Refusal}
 
 module _ (words : List ℕ) (l : Layout) where
   abbrev judgement : Judgement
@@ -27,7 +27,7 @@ module _ (words : List ℕ) (l : Layout) where
   same_count : {v n s t a b c d : ℕ} → judgement ≡ accepted v n s t → judgement ≡ accepted a b c d → t ≡ d
   same_count p q = cc
 
-  so : {v n s t : ℕ} → checked words ≡ Sound l → judgement ≡ accepted v n s t → AcceptedSo words l t
+  so : {v n s t : ℕ} → checked words ≡ Ok l → judgement ≡ accepted v n s t → AcceptedSo words l t
   so e j =
       let whole = Paper.accepted-only-so l.variables (formula_in words l) (proposal_in words l) _ _ _ _ j in
       let (strategy, few) = (Paper.accepted-exactly l.variables (formula_in words l) (proposal_in words l)).0 whole in
@@ -44,11 +44,11 @@ pub accepted-so : (words : List ℕ) (l : Layout) (t : ℕ) → judged_of words 
 unfolding judged_of
 accepted-so words l t h = go (checked words) refl h
   where
-    go : (found : Checked) → checked words ≡ found → judged_as words found ≡ accepted_with l t → AcceptedSo words l t
-    go (Sound m) e q =
+    go : (found : Result Layout Refusal) → checked words ≡ found → judged_as words found ≡ accepted_with l t → AcceptedSo words l t
+    go (Ok m) e q =
         let (same, v, n, s, j) = accepting m l (judgement words m) q in
         subst (λ x. AcceptedSo words x t) same (so words m e j)
-    go (Refused x) e q = let z : ◌≡◌ {A = ℕ} 0 1 = cc in absurd (omega arith)
+    go (Err x) e q = let z : ◌≡◌ {A = ℕ} 0 1 = cc in absurd (omega arith)
 
 pub accepted-exactly : (words : List ℕ) (l : Layout) (t : ℕ) → AcceptedExactly words l t
 accepted-exactly words l t = (accepted-so words l t, accepts words l)

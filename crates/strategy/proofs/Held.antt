@@ -1,4 +1,4 @@
--- Sound words have sound parts (specs/Inside/Parts.antt), and sound parts are what the walks, the net and the order ask for:
+-- Ok words have sound parts (specs/Inside/Parts.antt), and sound parts are what the walks, the net and the order ask for:
 -- their rows write the formula that is read from them, form one tree, and have stars whose reads are there.
 use Prim.Native.Nat.{ℕ, zero, suc, ◌+◌, ◌-◌, ◌*◌, ◌<◌, ◌≤◌}
 use native.Mathlib.Omega.{arith}
@@ -12,7 +12,6 @@ use Rattle.paper.specs.Formula.{labels, Formula}
 use Rattle.paper.proofs.Bools.{pick}
 use Rattle.paper.proofs.Labels.{mem-has}
 use Rattle.table.specs.declared.Layout.{Layout}
-use Rattle.table.specs.declared.Checked.TheVariants.{Sound}
 use Rattle.rows.specs.Rows.{kind_of, arg_of, from_of, Form, a_false, a_star, a_candidate, a_conjunction, a_disjunction, an_exists, an_if, no_form, form_of}
 use Rattle.table.specs.Table.{checked, rows_in, reads_in, chosen_in}
 use Rattle.rows.specs.Formula.{formula_at}
@@ -34,8 +33,9 @@ use Rattle.net.proofs.Sound.{chosen_of}
 use Rattle.net.proofs.Spans.{labels-count, labels-between}
 use Rattle.fingers.specs.Inside.Followable.{Followable}
 use Rattle.strategy.specs.Inside.Parts.{Parts}
+use Rattle.std.specs.Prelude.{Ok}
 
-pub parts-of : (words : List ℕ) (l : Layout) → checked words ≡ Sound l
+pub parts-of : (words : List ℕ) (l : Layout) → checked words ≡ Ok l
     → Parts (rows_in words l) (reads_in words l) (chosen_in words l) l.variables l.rows
 parts-of words l e =
     let u = understood words l e in
@@ -56,7 +56,7 @@ parts-of words l e =
     }
 
 -- the parts as they are lent: from a position on, or between two
-module _ (words : List ℕ) (l : Layout) (e : checked words ≡ Sound l) where
+module _ (words : List ℕ) (l : Layout) (e : checked words ≡ Ok l) where
   pub record Reached : Type 0 where
     pub reads_end : l.reads_at + l.reads ≤ length words
     pub rows_start : l.rows_at ≤ length words

@@ -6,9 +6,6 @@ use Rattle.strategy.proofs as strategy
 use Rattle.strategy.proofs.checks as checks
 use Rattle.strategy.proofs.choice as choice
 
-pub refused : OneOutcome strategy.refused.Kinds.ps strategy.refused.Kinds.r strategy.refused.Reads.Pre strategy.refused.Reads.Post
-refused κs a pre x y v w p q = (by-equation p q, refl)
-
 pub first-stranger :
     OneOutcome choice.first_stranger.Kinds.ps choice.first_stranger.Kinds.r choice.first_stranger.Reads.Pre choice.first_stranger.Reads.Post
 first-stranger κs a pre x y v w p q = (by-equation p q, refl)

@@ -8,7 +8,8 @@ use mathlib.Core.Bool.{Bool, true, false, not, false≢true}
 use mathlib.Core.List.{List, [], ◌∷◌, map, map-map}
 use lib.ListN.{length, get_or, length-map}
 use borrow.Author.Tests.{ne_eqb}
-use Rattle.paper.specs.Refusals.{refusal, no_order}
+use Rattle.paper.specs.declared.refusals.Fault.TheVariants.{NoOrder}
+use Rattle.paper.specs.Refusals.{refusal}
 use Rattle.paper.specs.declared.Label.{Label}
 use Rattle.paper.specs.Lists.{those}
 use Rattle.paper.specs.Formula.{ℓ, same, has, Rising, Formula}
@@ -164,7 +165,7 @@ module _ {rows reads chosen : List ℕ} {#V #N : ℕ} (c : Covered rows reads ch
           absurd (omega (arith, many-placed, length-map chosen ℓ))
 
   pub order-refuses : length (ordered rows reads chosen) < length chosen
-      → judge_order #V f A ≡ refused (refusal no_order (get_or chosen (lowest_on_cycle rows reads chosen) 0))
+      → judge_order #V f A ≡ refused (refusal NoOrder (get_or chosen (lowest_on_cycle rows reads chosen) 0))
   unfolding lowest_on_cycle
   order-refuses h =
       let (others, e) = offender (on_cycle (before f A) A) chosen (is_on_cycle rows reads chosen) as-indexed (some-cycle h) in rw e

@@ -5,16 +5,18 @@ use mathlib.Core.Path.{◌≡◌, subst}
 use mathlib.Core.List.{List}
 use Rattle.paper.specs.Outcome.{RefusalLeaves}
 use Rattle.table.specs.declared.Layout.{Layout}
-use Rattle.strategy.specs.declared.Judged.{Judged}
-use Rattle.strategy.specs.declared.Judged.TheVariants as answer
-use Rattle.strategy.specs.Verdict.{IsRefusal}
+use Rattle.paper.specs.Refusals.{IsRefusal}
 use Rattle.strategy.specs.Judge.{left_by, order_in, order_left}
 use Rattle.strategy.proofs as strategy
 use Rattle.strategy.proofs.checks as checks
+use Rattle.std.specs.Prelude.{Result, Ok, Err}
+use Rattle.paper.specs.declared.Refusal.{Refusal}
+use Rattle.strategy.specs.declared.Accepted.{Accepted}
 
-pub as_it_was : (j : Judged) (order_of : Layout → List ℕ) {lent left : List ℕ} {r : Judged} → r ≡ j → left ≡ left_by j order_of lent → IsRefusal r → left ≡ lent
-as_it_was (answer.Refused x) order_of e so h = so
-as_it_was (answer.Accepted a) order_of e so h = absurd (subst IsRefusal e h)
+pub as_it_was : (j : Result Accepted Refusal) (order_of : Layout → List ℕ) {lent left : List ℕ} {r : Result Accepted Refusal}
+    → r ≡ j → left ≡ left_by j order_of lent → IsRefusal r → left ≡ lent
+as_it_was (Err x) order_of e so h = so
+as_it_was (Ok a) order_of e so h = absurd (subst IsRefusal e h)
 
 pub judge-into :
     RefusalLeaves strategy.judge_into.Kinds.ps strategy.judge_into.Kinds.r (λ κs. IsRefusal) (λ κs a. (tt, (a.1.0.now, tt)))

@@ -9,30 +9,29 @@ ghost use Rattle.strategy.specs.Inside.Parts.{Parts, Covered, OrderedParts, Judg
 ghost use Rattle.paper.specs.Limits.{most_depth, slots};
 
 use crate::choice::first_stranger;
-use crate::{Accepted, Judged, refused};
+use crate::Accepted;
 use cover::{Covering, covering_of};
 use cycles::lowest_on_cycle;
-use filling::copy_words;
 use keys::{keys_of, total_of};
 use marks::marks_of;
 use net::{NET_LENGTH, note_net};
 use ordering::order;
-use paper::Label;
+use paper::{Label, Refusal};
 use paper::limits::{MOST_DEPTH, MOST_ROWS, MOST_TRANSITIONS, SLOTS};
-use paper::refusals::{NO_CANDIDATE, NO_ORDER, TOO_MANY, VARIABLE_MISSED, VARIABLE_TWICE};
+use paper::refusals::{Fault, refusal_at};
 use table::Layout;
 
 // 14, or an acceptance.
-fn counted(rows: &[u16], marks: &[u8; MOST_ROWS], l: Layout) -> Judged
+fn counted(rows: &[u16], marks: &[u8; MOST_ROWS], l: Layout) -> Result<Accepted, Refusal>
     requires { Walkable rows.now l.rows 0 }
     ensures { result ≡ counted_as l (total (keys_at rows.now marks.now most_depth 0)) }
 {
     let n = l.rows as u16;
     let transitions = total_of(keys_of(rows, marks, n, Label(0), MOST_DEPTH));
     if MOST_TRANSITIONS < transitions {
-        return refused(TOO_MANY, 0);
+        return Err(refusal_at(Fault::TooMany, 0));
     }
-    Judged::Accepted(Accepted {
+    Ok(Accepted {
         layout: l,
         transitions: transitions as usize,
     })
@@ -46,7 +45,7 @@ fn ordered(
     marks: &[u8; MOST_ROWS],
     l: Layout,
     out: &mut [u16; SLOTS],
-) -> Judged
+) -> Result<Accepted, Refusal>
     requires { Covered rows.now reads.now chosen.now l.variables l.rows × Marked (map ℓ chosen.now) marks.now × (length out.old ≡ slots) }
     ensures { OrderedParts rows.now reads.now chosen.now l out.old out.new result }
 {
@@ -57,14 +56,11 @@ fn ordered(
     let placed = order(rows, reads, chosen, &net, n, &mut reported);
     if placed < chosen.len() {
         let k = lowest_on_cycle(rows, reads, chosen, &net, n);
-        return refused(NO_ORDER, chosen[k]);
+        return Err(refusal_at(Fault::NoOrder, usize::from(chosen[k])));
     }
-    let judged = counted(rows, marks, l);
-    let Judged::Accepted(_) = judged else {
-        return judged;
-    };
-    copy_words(&reported, placed, out);
-    judged
+    let accepted = counted(rows, marks, l)?;
+    out[..placed].copy_from_slice(&reported[..placed]);
+    Ok(accepted)
 }
 
 // 10, 11, 12, and what follows them.
@@ -74,19 +70,19 @@ pub fn judge_parts(
     chosen: &[u16],
     l: Layout,
     out: &mut [u16; SLOTS],
-) -> Judged
+) -> Result<Accepted, Refusal>
     requires { Parts rows.now reads.now chosen.now l.variables l.rows × (length out.old ≡ slots) }
     ensures { JudgedParts rows.now reads.now chosen.now l out.old out.new result }
 {
     let k = first_stranger(rows, chosen);
     if k < chosen.len() {
-        return refused(NO_CANDIDATE, chosen[k]);
+        return Err(refusal_at(Fault::NoCandidate, usize::from(chosen[k])));
     }
     let marks = marks_of(chosen);
     let covering = covering_of(rows, &marks, l.rows as u16, l.variables as u16);
     match covering {
-        Covering::Missed(v) => refused(VARIABLE_MISSED, v.0),
-        Covering::Doubled(v) => refused(VARIABLE_TWICE, v.0),
+        Covering::Missed(v) => Err(refusal_at(Fault::VariableMissed, usize::from(v.0))),
+        Covering::Doubled(v) => Err(refusal_at(Fault::VariableTwice, usize::from(v.0))),
         Covering::Covered => ordered(rows, reads, chosen, &marks, l, out),
     }
 }

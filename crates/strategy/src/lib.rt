@@ -3,13 +3,11 @@
 
 ghost use Rattle.std.specs.Prelude.{◌≡◌, length};
 ghost use Rattle.strategy.specs.Judge.{judged_of, JudgedInto};
-ghost use Rattle.strategy.specs.Verdict.{refused_at};
 ghost use Rattle.paper.specs.Limits.{slots};
 
 use paper::Refusal;
 use paper::limits::SLOTS;
-use paper::refusals::refusal_at;
-use table::{Checked, Layout, check};
+use table::{Layout, check};
 
 mod checks; // 10 to 14, one after another
 mod choice; // 10
@@ -21,47 +19,28 @@ pub struct Accepted {
     pub transitions: usize,
 }
 
-// The answer to any words.
-#[derive(Clone, Copy)]
-pub enum Judged {
-    Accepted(Accepted),
-    Refused(Refusal),
-}
-
-// A refusal as an answer.
-pub fn refused(number: u8, place: u16) -> Judged
-    ensures { result ≡ refused_at number place }
-{
-    Judged::Refused(refusal_at(number, place as usize))
-}
-
 // The answer to any words, with the reported order of an accepted table in the first S words of `order`; a refusal leaves all of them
 // as they were. The caller says that the array has its length: a loan of one does not tell.
-pub fn judge_into(words: &[u16], order: &mut [u16; SLOTS]) -> Judged
+pub fn judge_into(words: &[u16], order: &mut [u16; SLOTS]) -> Result<Accepted, Refusal>
     requires { length order.old ≡ slots }
     ensures { JudgedInto words.now order.old order.new result }
 {
-    let found = check(words);
-    match found {
-        Checked::Sound(l) => {
-            let rows = l.rows_at;
-            let reads = l.reads_at;
-            let behind = l.reads_at + l.reads;
-            let chosen = l.chosen_at;
-            checks::judge_parts(
-                &words[rows..],
-                &words[reads..behind],
-                &words[chosen..],
-                l,
-                order,
-            )
-        }
-        Checked::Refused(r) => Judged::Refused(r),
-    }
+    let l = check(words)?;
+    let rows = l.rows_at;
+    let reads = l.reads_at;
+    let behind = l.reads_at + l.reads;
+    let chosen = l.chosen_at;
+    checks::judge_parts(
+        &words[rows..],
+        &words[reads..behind],
+        &words[chosen..],
+        l,
+        order,
+    )
 }
 
 // The answer to any words.
-pub fn judge(words: &[u16]) -> Judged
+pub fn judge(words: &[u16]) -> Result<Accepted, Refusal>
     ensures { result ≡ judged_of words.now }
 {
     let mut order = [0u16; SLOTS];

@@ -9,20 +9,19 @@ use lib.ListN.{length}
 use Rattle.paper.specs.Limits.{most_reads, most_rows, most_variables}
 use Rattle.sections.specs.declared.Cursor.{Cursor}
 use Rattle.table.specs.declared.Layout.{Layout}
-use Rattle.sections.specs.declared.Step.{Step}
-use Rattle.sections.specs.declared.Step.TheVariants.{Next, Halt}
-use Rattle.table.specs.declared.Checked.TheVariants.{Sound}
 use Rattle.sections.specs.Sections.{start, variables_at, reads_at, rows_at, strategy_at, end_at}
 use Rattle.table.specs.Table.{part_at, reads_of, sections, layout, as_checked, checked}
 use Rattle.sections.proofs.Opened.{passed, through}
 use Rattle.table.proofs.Laid.{Laid}
 use Rattle.table.proofs.PassedSections.{after_chosen, NamesPassed, ReadsPassed, RowsPassed, ChosenPassed}
 use Rattle.table.proofs.PassedSections.{names_of, of-names, reads-of, of-reads, rows_of, of-rows, chosen_of, of-chosen}
+use Rattle.std.specs.Prelude.{Result, Ok, Err}
+use Rattle.paper.specs.declared.Refusal.{Refusal}
 
 module _ (words : List ℕ) where
-  end-of : (c d : Cursor) → end_at (length words) c ≡ Next d → (length words ≤ c.at) × (d ≡ c)
+  end-of : (c d : Cursor) → end_at (length words) c ≡ Ok d → (length words ≤ c.at) × (d ≡ c)
   unfolding end_at
-  end-of c d e = let p = passed (ltb c.at (length words)) _ (Next c) d e in (ltb-false _ _ p.0, (cc))
+  end-of c d e = let p = passed (ltb c.at (length words)) _ (Ok c) d e in (ltb-false _ _ p.0, (cc))
 
   -- words of which every section passed
   pub record Sectioned (d : Cursor) : Type 0 where
@@ -35,7 +34,7 @@ module _ (words : List ℕ) where
 
   -- all four sections passed, and nothing follows
   all-passed : {a b c d : Cursor} (p : NamesPassed words a) (q : ReadsPassed words p.count b) (r : RowsPassed words p.count q.count c)
-      (s : ChosenPassed words p.count q.count r.count d) (e : Cursor) → end_at (length words) d ≡ Next e → Sectioned e
+      (s : ChosenPassed words p.count q.count r.count d) (e : Cursor) → end_at (length words) d ≡ Ok e → Sectioned e
   all-passed {d = d} p q r s e h =
       let z = end-of d e h in
       record {
@@ -54,7 +53,7 @@ module _ (words : List ℕ) where
         };
       }
 
-  pub sections-of : (d : Cursor) → sections words ≡ Next d → Sectioned d
+  pub sections-of : (d : Cursor) → sections words ≡ Ok d → Sectioned d
   unfolding sections
   sections-of d e =
       let t = through (variables_at words start) _ d e in
@@ -67,10 +66,10 @@ module _ (words : List ℕ) where
       let s = chosen_of words p.count q.count r.count v.mid w.mid r.cursor w.came in
       all-passed p q r s d w.went
 
-  pub counts-small : (d : Cursor) → sections words ≡ Next d → (d.variables ≤ most_variables) × (d.reads ≤ most_reads) × (d.rows ≤ most_rows)
+  pub counts-small : (d : Cursor) → sections words ≡ Ok d → (d.variables ≤ most_variables) × (d.reads ≤ most_reads) × (d.rows ≤ most_rows)
   counts-small d e = let s = sections-of d e in let h = s.laid_out in rw s.cursor (h.names.most, h.reads.most, h.rows.most)
 
-  of-sections : (#V #R #N #S : ℕ) → Laid words (layout #V #R #N #S) → sections words ≡ Next (after_chosen #V #R #N #S)
+  of-sections : (#V #R #N #S : ℕ) → Laid words (layout #V #R #N #S) → sections words ≡ Ok (after_chosen #V #R #N #S)
   unfolding sections end_at
   of-sections #V #R #N #S h =
       let all = h.all_words in
@@ -82,18 +81,18 @@ module _ (words : List ℕ) where
         le-ltb (#V + #R + 4 * #N + #S + 4) (length words) (omega arith),
       )
 
-  sound-of : (s : Step) (l : Layout) → as_checked s ≡ Sound l → (d : Cursor) × (s ≡ Next d) × (l ≡ layout d.variables d.reads d.rows d.count)
-  sound-of (Halt r) l e = let z : ◌≡◌ {A = ℕ} 0 1 = cc in absurd (omega arith)
-  sound-of (Next d) l e = (d, refl, (cc))
+  sound-of : (s : Result Cursor Refusal) (l : Layout) → as_checked s ≡ Ok l → (d : Cursor) × (s ≡ Ok d) × (l ≡ layout d.variables d.reads d.rows d.count)
+  sound-of (Err r) l e = let z : ◌≡◌ {A = ℕ} 0 1 = cc in absurd (omega arith)
+  sound-of (Ok d) l e = (d, refl, (cc))
 
   -- words are sound exactly if they are laid out so
-  pub accepted : (l : Layout) → checked words ≡ Sound l → Laid words l
+  pub accepted : (l : Layout) → checked words ≡ Ok l → Laid words l
   unfolding checked
   accepted l e =
       let a = sound-of (sections words) l e in
       let s = sections-of a.0 a.1 in
       rw (a.2, s.cursor) s.laid_out
 
-  pub laid : (l : Layout) → Laid words l → checked words ≡ Sound l
+  pub laid : (l : Layout) → Laid words l → checked words ≡ Ok l
   unfolding checked
   laid l h = rw h.of_counts (ap as_checked (of-sections l.variables l.reads l.rows l.chosen (rw h.of_counts at h)))

@@ -8,11 +8,9 @@ use borrow.Author.Tests.{ltb-false, le-ltb}
 use lib.Dec.{ltb}
 use lib.ListN.{length, get_or, take, drop, length-drop}
 use lib.Seq.{drop-drop, get_or-drop, length-take-le}
-use Rattle.paper.specs.Refusals.{reads_left, too_deep, entry_unfit, name_not_above, read_beyond, row_broken}
+use Rattle.paper.specs.declared.refusals.Fault.TheVariants.{ReadsLeft, TooDeep, EntryUnfit, NameNotAbove, ReadBeyond, RowBroken}
 use Rattle.paper.specs.Limits.{most_chosen, most_reads, most_rows, most_variables}
 use Rattle.sections.specs.declared.Cursor.{Cursor}
-use Rattle.sections.specs.declared.Step.{Step}
-use Rattle.sections.specs.declared.Step.TheVariants.{Next}
 use Rattle.entries.specs.First.{first}
 use Rattle.rows.specs.Rows.{taken_before, breaks_rules, is_deep}
 use Rattle.entries.specs.Entries.{falls, beyond}
@@ -22,6 +20,8 @@ use Rattle.entries.proofs.First.{first-none}
 use Rattle.sections.proofs.Opened.{passed, unless-of, of-unless, Opened, behind, held, of-held}
 use Rattle.sections.proofs.ThirdSection.{all_keep, all-taken}
 use Rattle.table.proofs.Laid.{Names, Reads, Rows, Chosen}
+use Rattle.std.specs.Prelude.{Result, Ok}
+use Rattle.paper.specs.declared.Refusal.{Refusal}
 
 -- the count of a part, and its entries
 word_at : (words : List ℕ) (p : ℕ) → get_or (drop p words) 0 0 ≡ get_or words p 0
@@ -50,49 +50,49 @@ pub record Behind (d : Cursor) (after : ℕ → Cursor) (Holds : ℕ → Type 0)
   pub holds : Holds count
 
 -- how each section's cursor comes of the one that opened it
-abbrev named : Cursor → Step
-named m = Next (record { at = m.at; count = m.count; variables = m.count; reads = m.reads; rows = m.rows })
+abbrev named : Cursor → Result Cursor Refusal
+named m = Ok (record { at = m.at; count = m.count; variables = m.count; reads = m.reads; rows = m.rows })
 
-abbrev read : Cursor → Step
-read m = Next (record { at = m.at; count = m.count; variables = m.variables; reads = m.count; rows = m.rows })
+abbrev read : Cursor → Result Cursor Refusal
+read m = Ok (record { at = m.at; count = m.count; variables = m.variables; reads = m.count; rows = m.rows })
 
-abbrev rowed : Cursor → Step
-rowed m = Next (record { at = m.at; count = m.count; variables = m.variables; reads = m.reads; rows = m.count })
+abbrev rowed : Cursor → Result Cursor Refusal
+rowed m = Ok (record { at = m.at; count = m.count; variables = m.variables; reads = m.reads; rows = m.count })
 
 -- section 3 goes on if its rows take all reads and none is too deep
-abbrev rowed_if : List ℕ → ℕ → Cursor → Step
+abbrev rowed_if : List ℕ → ℕ → Cursor → Result Cursor Refusal
 rowed_if rows #R m =
-    cond (ltb (taken_before rows m.count) #R) (halt reads_left (taken_before rows m.count)) (unless too_deep 0 (is_deep rows) m.count (rowed m))
+    cond (ltb (taken_before rows m.count) #R) (halt ReadsLeft (taken_before rows m.count)) (unless TooDeep 0 (is_deep rows) m.count (rowed m))
 
-rowed-of : (rows : List ℕ) (#R : ℕ) (m c : Cursor) → rowed_if rows #R m ≡ Next c
-    → (#R ≤ taken_before rows m.count) × (first (is_deep rows) m.count ≡ m.count) × (rowed m ≡ Next c)
+rowed-of : (rows : List ℕ) (#R : ℕ) (m c : Cursor) → rowed_if rows #R m ≡ Ok c
+    → (#R ≤ taken_before rows m.count) × (first (is_deep rows) m.count ≡ m.count) × (rowed m ≡ Ok c)
 rowed-of rows #R m c e =
     let t = passed (ltb (taken_before rows m.count) #R) _ _ c e in
-    let u = unless-of too_deep 0 (is_deep rows) m.count _ c t.1 in
+    let u = unless-of TooDeep 0 (is_deep rows) m.count _ c t.1 in
     (ltb-false _ _ t.0, u.0, u.1)
 
 of-rowed : (rows : List ℕ) (#R : ℕ) (m : Cursor) → #R ≤ taken_before rows m.count → first (is_deep rows) m.count ≡ m.count → rowed_if rows #R m ≡ rowed m
-of-rowed rows #R m h e = rw (le-ltb (taken_before rows m.count) #R h) (of-unless too_deep 0 (is_deep rows) m.count _ e)
+of-rowed rows #R m h e = rw (le-ltb (taken_before rows m.count) #R h) (of-unless TooDeep 0 (is_deep rows) m.count _ e)
 
 -- what is asked of an entry of section 4
 abbrev unfit : List ℕ → ℕ → ℕ → Bool
 unfit entries #N k = beyond entries #N k || falls entries k
 
 -- the cursor behind each section, opened behind the one before
-after-names : (#V : ℕ) → named (behind start 1 #V) ≡ Next (after_names #V)
-after-names #V = ap (λ at. Next (record { at = at; count = #V; variables = #V; reads = 0; rows = 0 })) (omega arith)
+after-names : (#V : ℕ) → named (behind start 1 #V) ≡ Ok (after_names #V)
+after-names #V = ap (λ at. Ok (record { at = at; count = #V; variables = #V; reads = 0; rows = 0 })) (omega arith)
 
-after-reads : (#V #R : ℕ) → read (behind (after_names #V) 1 #R) ≡ Next (after_reads #V #R)
-after-reads #V #R = ap (λ at. Next (record { at = at; count = #R; variables = #V; reads = #R; rows = 0 })) (omega arith)
+after-reads : (#V #R : ℕ) → read (behind (after_names #V) 1 #R) ≡ Ok (after_reads #V #R)
+after-reads #V #R = ap (λ at. Ok (record { at = at; count = #R; variables = #V; reads = #R; rows = 0 })) (omega arith)
 
-after-rows : (#V #R #N : ℕ) → rowed (behind (after_reads #V #R) 4 #N) ≡ Next (after_rows #V #R #N)
-after-rows #V #R #N = ap (λ at. Next (record { at = at; count = #N; variables = #V; reads = #R; rows = #N })) (omega arith)
+after-rows : (#V #R #N : ℕ) → rowed (behind (after_reads #V #R) 4 #N) ≡ Ok (after_rows #V #R #N)
+after-rows #V #R #N = ap (λ at. Ok (record { at = at; count = #N; variables = #V; reads = #R; rows = #N })) (omega arith)
 
-after-chosen : (#V #R #N #S : ℕ) → Next (behind (after_rows #V #R #N) 1 #S) ≡ Next (after_chosen #V #R #N #S)
-after-chosen #V #R #N #S = ap (λ at. Next (record { at = at; count = #S; variables = #V; reads = #R; rows = #N })) (omega arith)
+after-chosen : (#V #R #N #S : ℕ) → ◌≡◌ {A = Result Cursor Refusal} (Ok (behind (after_rows #V #R #N) 1 #S)) (Ok (after_chosen #V #R #N #S))
+after-chosen #V #R #N #S = ap (λ at. Ok (record { at = at; count = #S; variables = #V; reads = #R; rows = #N })) (omega arith)
 
 -- a step leads to one cursor
-one-cursor : {s : Step} {c d : Cursor} → s ≡ Next c → s ≡ Next d → c ≡ d
+one-cursor : {s : Result Cursor Refusal} {c d : Cursor} → s ≡ Ok c → s ≡ Ok d → c ≡ d
 one-cursor p q = cc
 
 module _ (words : List ℕ) where
@@ -108,27 +108,27 @@ module _ (words : List ℕ) where
   abbrev pub ChosenPassed : ℕ → ℕ → ℕ → Cursor → Type 0
   ChosenPassed #V #R #N d = Behind d (after_chosen #V #R #N) (λ #S. (#V + #R + 4 * #N + #S + 3 < length words) × Chosen words (layout #V #R #N #S))
 
-  pub names_of : (a : Cursor) → variables_at words start ≡ Next a → NamesPassed a
+  pub names_of : (a : Cursor) → variables_at words start ≡ Ok a → NamesPassed a
   unfolding variables_at
   names_of a e =
-      let h = held words start 1 most_variables 1 name_not_above 1 (λ n. falls (drop 1 words)) named a e in
+      let h = held words start 1 most_variables 1 NameNotAbove 1 (λ n. falls (drop 1 words)) named a e in
       record {
         count = h.n;
         cursor = one-cursor h.went (after-names h.n);
         holds = (omega arith, λ #R #N #S. record { some = h.opens.least; most = h.opens.most; counted = h.opens.word; ascend = h.fit });
       }
 
-  pub of-names : (#V #R #N #S : ℕ) → Names words (layout #V #R #N #S) → #V < length words → variables_at words start ≡ Next (after_names #V)
+  pub of-names : (#V #R #N #S : ℕ) → Names words (layout #V #R #N #S) → #V < length words → variables_at words start ≡ Ok (after_names #V)
   unfolding variables_at
   of-names #V #R #N #S h room =
       let o : Opened words 1 most_variables 1 #V = record { word = h.counted; least = h.some; most = h.most; room = omega arith } in
-      of-held words start 1 most_variables 1 name_not_above 1 (λ n. falls (drop 1 words)) named #V o h.ascend ∙ after-names #V
+      of-held words start 1 most_variables 1 NameNotAbove 1 (λ n. falls (drop 1 words)) named #V o h.ascend ∙ after-names #V
 
-  pub reads-of : (#V : ℕ) (a b : Cursor) → a ≡ after_names #V → reads_at (part_at words a) a ≡ Next b → ReadsPassed #V b
+  pub reads-of : (#V : ℕ) (a b : Cursor) → a ≡ after_names #V → reads_at (part_at words a) a ≡ Ok b → ReadsPassed #V b
   unfolding reads_at
   reads-of #V a b q e =
       let es : drop 1 (drop (#V + 1) words) ≡ drop (#V + 2) words = entries_at words (#V + 1) (#V + 2) (omega arith) in
-      let h = held (drop (#V + 1) words) (after_names #V) 0 most_reads 1 read_beyond (#V + 1 + 1) (λ n. beyond (drop (#V + 2) words) #V) read b
+      let h = held (drop (#V + 1) words) (after_names #V) 0 most_reads 1 ReadBeyond (#V + 1 + 1) (λ n. beyond (drop (#V + 2) words) #V) read b
       (simp (q, es) at e) in
       record {
         count = h.n;
@@ -140,11 +140,11 @@ module _ (words : List ℕ) where
       }
 
   pub of-reads : (#V #R #N #S : ℕ) → Reads words (layout #V #R #N #S) → #V + #R + 1 < length words
-      → reads_at (drop (#V + 1) words) (after_names #V) ≡ Next (after_reads #V #R)
+      → reads_at (drop (#V + 1) words) (after_names #V) ≡ Ok (after_reads #V #R)
   unfolding reads_at
   of-reads #V #R #N #S h room =
       rw (entries_at words (#V + 1) (#V + 2) (omega arith))
-      (of-held (drop (#V + 1) words) (after_names #V) 0 most_reads 1 read_beyond (#V + 1 + 1) (λ n. beyond (drop (#V + 2) words) #V) read #R
+      (of-held (drop (#V + 1) words) (after_names #V) 0 most_reads 1 ReadBeyond (#V + 1 + 1) (λ n. beyond (drop (#V + 2) words) #V) read #R
       (record { word = word_at words (#V + 1) ∙ h.counted; least = omega arith; most = h.most; room = omega (arith, length-drop (#V + 1) words) }) h.below
       ∙ after-reads #V #R)
 
@@ -152,14 +152,14 @@ module _ (words : List ℕ) where
   pub reads_before : (#V #R : ℕ) → reads_of words (after_reads #V #R) ≡ take #R (drop (#V + 2) words)
   reads_before #V #R = let z : #V + #R + 2 - #R ≡ #V + 2 = omega arith in rw z
 
-  pub rows_of : (#V #R : ℕ) (b c : Cursor) → b ≡ after_reads #V #R → rows_at (part_at words b) (reads_of words b) b ≡ Next c → RowsPassed #V #R c
+  pub rows_of : (#V #R : ℕ) (b c : Cursor) → b ≡ after_reads #V #R → rows_at (part_at words b) (reads_of words b) b ≡ Ok c → RowsPassed #V #R c
   unfolding rows_at
   rows_of #V #R b c q e =
       let p = drop (#V + #R + 2) words in
       let rows = drop (#V + #R + 3) words in
       let reads = take #R (drop (#V + 2) words) in
       let es : drop 1 p ≡ rows = entries_at words (#V + #R + 2) (#V + #R + 3) (omega arith) in
-      let h = held p (after_reads #V #R) 1 most_rows 4 row_broken 0 (λ n. breaks_rules rows reads #V n) (rowed_if rows #R) c
+      let h = held p (after_reads #V #R) 1 most_rows 4 RowBroken 0 (λ n. breaks_rules rows reads #V n) (rowed_if rows #R) c
       (simp (q, reads_before, es) at e) in
       let w = rowed-of rows #R (behind (after_reads #V #R) 4 h.n) c h.went in
       let there = length-take-le #R (drop (#V + 2) words) (omega (arith, length-drop (#V + #R + 2) words, length-drop (#V + 2) words)) in
@@ -180,26 +180,26 @@ module _ (words : List ℕ) where
       }
 
   pub of-rows : (#V #R #N #S : ℕ) → Rows words (layout #V #R #N #S) → #V + #R + 4 * #N + 2 < length words
-      → rows_at (drop (#V + #R + 2) words) (reads_of words (after_reads #V #R)) (after_reads #V #R) ≡ Next (after_rows #V #R #N)
+      → rows_at (drop (#V + #R + 2) words) (reads_of words (after_reads #V #R)) (after_reads #V #R) ≡ Ok (after_rows #V #R #N)
   unfolding rows_at
   of-rows #V #R #N #S h room =
       let p = drop (#V + #R + 2) words in
       let rows = drop (#V + #R + 3) words in
       let reads = take #R (drop (#V + 2) words) in
       rw (reads_before, entries_at words (#V + #R + 2) (#V + #R + 3) (omega arith))
-      (of-held p (after_reads #V #R) 1 most_rows 4 row_broken 0 (λ n. breaks_rules rows reads #V n) (rowed_if rows #R) #N
+      (of-held p (after_reads #V #R) 1 most_rows 4 RowBroken 0 (λ n. breaks_rules rows reads #V n) (rowed_if rows #R) #N
       (record { word = word_at words (#V + #R + 2) ∙ h.counted; least = h.some; most = h.most; room = omega (arith, length-drop (#V + #R + 2) words) })
       (first-none _ #N (λ i k. rw (h.keep i k)))
       ∙ of-rowed rows #R (behind (after_reads #V #R) 4 #N) (omega arith) h.shallow
       ∙ after-rows #V #R #N)
 
-  pub chosen_of : (#V #R #N : ℕ) (c d : Cursor) → c ≡ after_rows #V #R #N → strategy_at (part_at words c) c ≡ Next d → ChosenPassed #V #R #N d
+  pub chosen_of : (#V #R #N : ℕ) (c d : Cursor) → c ≡ after_rows #V #R #N → strategy_at (part_at words c) c ≡ Ok d → ChosenPassed #V #R #N d
   unfolding strategy_at
   chosen_of #V #R #N c d q e =
       let p = drop (#V + #R + 4 * #N + 3) words in
       let entries = drop (#V + #R + 4 * #N + 4) words in
       let es : drop 1 p ≡ entries = entries_at words (#V + #R + 4 * #N + 3) (#V + #R + 4 * #N + 4) (omega arith) in
-      let h = held p (after_rows #V #R #N) 0 most_chosen 1 entry_unfit 0 (λ n. unfit entries #N) Next d (simp (q, es) at e) in
+      let h = held p (after_rows #V #R #N) 0 most_chosen 1 EntryUnfit 0 (λ n. unfit entries #N) Ok d (simp (q, es) at e) in
       record {
         count = h.n;
         cursor = one-cursor h.went (after-chosen #V #R #N h.n);
@@ -210,13 +210,13 @@ module _ (words : List ℕ) where
       }
 
   pub of-chosen : (#V #R #N #S : ℕ) → Chosen words (layout #V #R #N #S) → #V + #R + 4 * #N + #S + 3 < length words
-      → strategy_at (drop (#V + #R + 4 * #N + 3) words) (after_rows #V #R #N) ≡ Next (after_chosen #V #R #N #S)
+      → strategy_at (drop (#V + #R + 4 * #N + 3) words) (after_rows #V #R #N) ≡ Ok (after_chosen #V #R #N #S)
   unfolding strategy_at
   of-chosen #V #R #N #S h room =
       let p = #V + #R + 4 * #N + 3 in
       let entries = drop (#V + #R + 4 * #N + 4) words in
       rw (entries_at words p (#V + #R + 4 * #N + 4) (omega arith))
-      (of-held (drop p words) (after_rows #V #R #N) 0 most_chosen 1 entry_unfit 0 (λ n. unfit entries #N) Next #S
+      (of-held (drop p words) (after_rows #V #R #N) 0 most_chosen 1 EntryUnfit 0 (λ n. unfit entries #N) Ok #S
       (record { word = word_at words p ∙ h.counted; least = omega arith; most = h.most; room = omega (arith, length-drop p words) })
       h.fit
       ∙ after-chosen #V #R #N #S)

@@ -1,13 +1,10 @@
 -- The sections of a whole table, one after another; where they lie in sound words; and what any words are found to be
 -- (document 01, "The formula table").
-use Rattle.std.specs.Prelude.{ℕ, ◌+◌, ◌-◌, ◌*◌, List, length, take, drop}
+use Rattle.std.specs.Prelude.{ℕ, ◌+◌, ◌-◌, ◌*◌, List, length, take, drop, Result, Ok, Err}
 use Rattle.sections.specs.declared.Cursor.{Cursor}
-use Rattle.sections.specs.declared.Step.{Step}
-use Rattle.sections.specs.declared.Step.TheVariants.{Next, Halt}
 use Rattle.table.specs.declared.Layout.{Layout}
-use Rattle.table.specs.declared.Checked.{Checked}
-use Rattle.table.specs.declared.Checked.TheVariants.{Sound, Refused}
 use Rattle.sections.specs.Sections.{and_then, start, variables_at, reads_at, rows_at, strategy_at, end_at}
+use Rattle.paper.specs.declared.Refusal.{Refusal}
 
 -- the part of the words from a position on; the reads of section 2, which stand before the cursor behind it
 abbrev pub part_at : List ℕ → Cursor → List ℕ
@@ -17,7 +14,7 @@ abbrev pub reads_of : List ℕ → Cursor → List ℕ
 reads_of words c = take c.reads (drop (c.at - c.reads) words)
 
 -- the sections one after another, each wholly checked before the next
-unfoldable pub sections : List ℕ → Step
+unfoldable pub sections : List ℕ → Result Cursor Refusal
 sections words =
     and_then (variables_at words start)
     (λ a. and_then (reads_at (part_at words a) a)
@@ -51,10 +48,10 @@ module _ (words : List ℕ) (l : Layout) where
   abbrev pub chosen_in : List ℕ
   chosen_in = take l.chosen (drop l.chosen_at words)
 
-abbrev pub as_checked : Step → Checked
-as_checked (Halt r) = Refused r
-as_checked (Next c) = Sound (layout c.variables c.reads c.rows c.count)
+abbrev pub as_checked : Result Cursor Refusal → Result Layout Refusal
+as_checked (Err r) = Err r
+as_checked (Ok c) = Ok (layout c.variables c.reads c.rows c.count)
 
 -- what the words are found to be
-unfoldable pub checked : List ℕ → Checked
+unfoldable pub checked : List ℕ → Result Layout Refusal
 checked words = as_checked (sections words)

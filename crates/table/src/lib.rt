@@ -3,11 +3,11 @@
 #![tactic(auto)]
 
 ghost use Rattle.std.specs.Prelude.{◌≡◌, ◌≤◌};
-ghost use Rattle.table.specs.Table.{sections, as_checked, checked};
+ghost use Rattle.table.specs.Table.{sections, layout, checked};
 ghost use Rattle.paper.specs.Limits.{most_reads, most_rows, most_variables};
 
 use paper::Refusal;
-use sections::{Cursor, Step};
+use sections::Cursor;
 
 // What sound words hold: the counts V, R, N and S, and the positions of the first read, the first row and the first
 // chosen label. The names begin at word 1.
@@ -22,46 +22,39 @@ pub struct Layout {
     pub chosen_at: usize,
 }
 
-// The answer to any words.
-#[derive(Clone, Copy)]
-pub enum Checked {
-    Sound(Layout),
-    Refused(Refusal),
-}
-
 // All sections, each handed on from its first word.
-fn sections(words: &[u16]) -> Step
+fn sections(words: &[u16]) -> Result<Cursor, Refusal>
     ensures { result ≡ sections words.now }
 {
     let start = Cursor::new();
     let first = start.variables(words);
-    let Step::Next(one) = first else {
+    let Ok(one) = first else {
         return first;
     };
     let a = one.at;
     let second = one.reads(&words[a..]);
-    let Step::Next(two) = second else {
+    let Ok(two) = second else {
         return second;
     };
     let b = two.at;
     let third = two.rows(&words[b..], &words[a + 1..b]);
-    let Step::Next(three) = third else {
+    let Ok(three) = third else {
         return third;
     };
     let c = three.at;
     let fourth = three.strategy(&words[c..]);
-    let Step::Next(four) = fourth else {
+    let Ok(four) = fourth else {
         return fourth;
     };
     four.end(words.len())
 }
 
 // What the last cursor found, with the positions that follow from it.
-fn laid_out(c: Cursor) -> Checked
+fn laid_out(c: Cursor) -> Layout
     requires { (c.variables ≤ most_variables) × (c.reads ≤ most_reads) × (c.rows ≤ most_rows) }
-    ensures { result ≡ as_checked (Step.Next c) }
+    ensures { result ≡ layout c.variables c.reads c.rows c.count }
 {
-    Checked::Sound(Layout {
+    Layout {
         variables: c.variables,
         reads: c.reads,
         rows: c.rows,
@@ -69,16 +62,13 @@ fn laid_out(c: Cursor) -> Checked
         reads_at: c.variables + 2,
         rows_at: c.variables + c.reads + 3,
         chosen_at: c.variables + c.reads + 4 * c.rows + 4,
-    })
+    }
 }
 
-// What any words are found to be.
-pub fn check(words: &[u16]) -> Checked
+// What any words are found to be: sound, or refused.
+pub fn check(words: &[u16]) -> Result<Layout, Refusal>
     ensures { result ≡ checked words.now }
 {
-    let found = sections(words);
-    match found {
-        Step::Next(c) => laid_out(c),
-        Step::Halt(r) => Checked::Refused(r),
-    }
+    let found = sections(words)?;
+    Ok(laid_out(found))
 }

@@ -5,7 +5,6 @@ use native.Mathlib.Omega.{arith}
 use mathlib.Core.Path.{◌≡◌, refl, subst}
 use mathlib.Core.List.{List}
 use Rattle.table.specs.declared.Layout.{Layout}
-use Rattle.table.specs.declared.Checked.TheVariants.{Sound}
 use Rattle.entries.specs.First.{first}
 use Rattle.rows.specs.Rows.{form_of, meets, taken_before, false_rule, star_rule, candidate_rule, join_rule}
 use Rattle.rows.specs.Rows.{bound_rule, ends_within, keeps_rules, round_of, depth_of}
@@ -20,6 +19,7 @@ use Rattle.written.specs.Tables.{table_in}
 use Rattle.written.specs.Inside.Understood.{Understood}
 use Rattle.written.specs.Example.{words_of_p, table_of_p}
 use Rattle.written.proofs.Tables.{understood}
+use Rattle.std.specs.Prelude.{Ok}
 
 abbrev layout_of_p : Layout
 layout_of_p = layout 2 1 8 3
@@ -27,7 +27,7 @@ layout_of_p = layout 2 1 8 3
 abbrev rows_of_p : List ℕ
 rows_of_p = rows_in words_of_p layout_of_p
 
-pub P-is-sound : checked words_of_p ≡ Sound layout_of_p
+pub P-is-sound : checked words_of_p ≡ Ok layout_of_p
 unfolding first form_of meets ascend taken_before false_rule star_rule candidate_rule join_rule bound_rule ends_within keeps_rules round_of
     open_at variables_at reads_at rows_at strategy_at end_at sections checked
 P-is-sound = refl

@@ -10,7 +10,6 @@ use lib.ListN.{length, get_or, length-append, length-map}
 use Rattle.paper.specs.Limits.{most_depth}
 use Rattle.paper.specs.Formula.{ℓ, Star, stars}
 use Rattle.table.specs.declared.Layout.{Layout}
-use Rattle.table.specs.declared.Checked.TheVariants.{Sound}
 use Rattle.table.specs.Table.{checked, reads_in, rows_in}
 use Rattle.written.specs.Written.{Table, read_words, reads_from, taken_reads, size, rows_from, section, written, Within}
 use Rattle.written.specs.Tables.{table_in, layout_of, SoundExactly, OneTable, WrittenOnce}
@@ -26,6 +25,7 @@ use Rattle.written.proofs.WrittenDepth.{written-depth}
 use Rattle.table.proofs.Laid.{Laid}
 use Rattle.table.proofs.LaidExactly.{accepted, laid}
 use Rattle.written.proofs.Understood.{understand}
+use Rattle.std.specs.Prelude.{Ok}
 
 -- what is claimed of the reads of each star is so of all reads
 each_read : (P : ℕ → Type 0) (ss : List Star) → Each (λ s. Each (λ v. P v.0) s.reads) ss → Each P (reads_from ss)
@@ -156,10 +156,10 @@ understood words l e = understand words l (accepted words l e)
 pub sound-exactly : (words : List ℕ) → SoundExactly words
 sound-exactly words = (to, from)
   where
-    to : (l : Layout) × (checked words ≡ Sound l) → (t : Table) × Within t × (words ≡ written t)
+    to : (l : Layout) × (checked words ≡ Ok l) → (t : Table) × Within t × (words ≡ written t)
     to (l, e) = let u = understood words l e in (table_in words l, u.within, u.words_are)
 
-    from : (t : Table) × Within t × (words ≡ written t) → (l : Layout) × (checked words ≡ Sound l)
+    from : (t : Table) × Within t × (words ≡ written t) → (l : Layout) × (checked words ≡ Ok l)
     from (t, w, e) = (layout_of t, (one_table words t w e).0)
 
 pub written_once : WrittenOnce

@@ -1,10 +1,9 @@
 -- The table that words write, and the theorem that joins checker and writer: words pass the checks exactly if they are the
 -- written form of one table within the bounds, and that table is the one that is read from them (proofs/Tables.antt).
-use Rattle.std.specs.Prelude.{ℕ, List, map, ◌≡◌, ◌↔◌, length}
+use Rattle.std.specs.Prelude.{ℕ, List, map, ◌≡◌, ◌↔◌, length, Ok}
 use Rattle.paper.specs.Limits.{most_depth}
 use Rattle.paper.specs.Formula.{ℓ, Formula}
 use Rattle.table.specs.declared.Layout.{Layout}
-use Rattle.table.specs.declared.Checked.TheVariants.{Sound}
 use Rattle.table.specs.Table.{layout, names_in, reads_in, rows_in, chosen_in, checked}
 use Rattle.rows.specs.Formula.{formula_at}
 use Rattle.written.specs.Written.{Table, written, Within, taken_reads, size}
@@ -23,11 +22,11 @@ layout_of t = layout (length t.names) (length (taken_reads t.formula)) (size t.f
 
 -- words are sound exactly if they write a table within the bounds
 abbrev pub SoundExactly : List ℕ → Type 0
-SoundExactly words = ((l : Layout) × (checked words ≡ Sound l)) ↔ ((t : Table) × Within t × (words ≡ written t))
+SoundExactly words = ((l : Layout) × (checked words ≡ Ok l)) ↔ ((t : Table) × Within t × (words ≡ written t))
 
 -- and that table is the one read from them: so there is one only
 abbrev pub OneTable : List ℕ → Type 0
-OneTable words = (t : Table) → Within t → words ≡ written t → (checked words ≡ Sound (layout_of t)) × (table_in words (layout_of t) ≡ t)
+OneTable words = (t : Table) → Within t → words ≡ written t → (checked words ≡ Ok (layout_of t)) × (table_in words (layout_of t) ≡ t)
 
 -- no two tables within the bounds are written alike
 abbrev pub WrittenOnce : Type 0

@@ -1,5 +1,5 @@
 -- What is known of an accepted table, and what the requests of a caller that has judged ask and leave.
-use Rattle.std.specs.Prelude.{ℕ, ◌≤◌, ◌<◌, List, ◌≡◌, length, take}
+use Rattle.std.specs.Prelude.{ℕ, ◌≤◌, ◌<◌, List, ◌≡◌, length, take, Result, Ok, Err}
 use Rattle.paper.specs.Limits.{most_chosen, most_depth, most_rows, most_transitions, most_variables}
 use Rattle.entries.specs.Front.{in_front}
 use Rattle.table.specs.declared.Layout.{Layout}
@@ -7,14 +7,13 @@ use Rattle.table.specs.Table.{rows_in}
 use Rattle.marks.specs.Inside.Chosen.{Marked, MarkedExactly}
 use Rattle.keys.specs.declared.Distinct.{Distinct}
 use Rattle.keys.specs.Inside.Keys.{keys_at}
-use Rattle.filling.specs.declared.Filled.{Filled}
-use Rattle.filling.specs.declared.Filled.TheVariants as filled
 use Rattle.strategy.specs.declared.Accepted.{Accepted}
-use Rattle.strategy.specs.declared.Judged.TheVariants as judged
 use Rattle.strategy.specs.Judge.{judged_of, order_in, proposal_in}
 use Rattle.answers.specs.declared.Counts.{Counts}
 use Rattle.answers.specs.declared.numbered.Basis.{Basis}
 use Rattle.answers.specs.Requests.{reported, key_of, kept_marks, assigned_of}
+use Rattle.filling.specs.declared.Length.{Length}
+use Rattle.paper.specs.declared.Refusal.{Refusal}
 
 -- the bounds of an accepted table's counts
 pub record FitCounts (c : Counts) : Type 0 where
@@ -24,9 +23,9 @@ pub record FitCounts (c : Counts) : Type 0 where
   pub transitions_fit : c.transitions ≤ most_transitions
 
 -- the bound of what a request fills: S words, N bytes or V words
-abbrev pub FitFilled : Filled → Type 0
-FitFilled (filled.Done l) = l.count ≤ most_rows
-FitFilled (filled.Refused r) = Unit {0}
+abbrev pub FitFilled : Result Length Refusal → Type 0
+FitFilled (Ok l) = l.count ≤ most_rows
+FitFilled (Err r) = Unit {0}
 
 -- What an accepted table's requests fill: S words, N bytes, V words. Each of its transitions has V chosen labels, so 18 is never met.
 pub record Amounts (words : List ℕ) (a : Accepted) : Type 0 where
@@ -37,7 +36,7 @@ pub record Amounts (words : List ℕ) (a : Accepted) : Type 0 where
 
 -- For a caller that has judged: the words are accepted so; the order stands at the front of some words.
 abbrev pub AcceptedAs : List ℕ → Accepted → Type 0
-AcceptedAs words a = judged_of words ≡ judged.Accepted a
+AcceptedAs words a = judged_of words ≡ Ok a
 
 pub record Ordered (words : List ℕ) (a : Accepted) (order : List ℕ) : Type 0 where
   pub accepted : AcceptedAs words a

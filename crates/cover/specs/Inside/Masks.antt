@@ -2,7 +2,8 @@
 -- Variable 64 * block + b is bit b of block `block`.
 use Rattle.std.specs.Prelude.{ℕ, ◌+◌, ◌/◌, ◌%◌, ◌^◌, Bool, true, false, cond, not, ◌&&◌, ◌||◌, List, [], ◌∷◌, eqb, ltb}
 use Rattle.std.specs.Int.Bits.{bit_and, bit_or}
-use Rattle.paper.specs.Refusals.{refusal, variable_missed, variable_twice}
+use Rattle.paper.specs.declared.refusals.Fault.TheVariants.{VariableMissed, VariableTwice}
+use Rattle.paper.specs.Refusals.{refusal}
 use Rattle.paper.specs.Limits.{most_depth}
 use Rattle.paper.specs.declared.Variable.{Variable}
 use Rattle.paper.specs.Formula.{𝓋}
@@ -91,6 +92,6 @@ covering_by (v ∷ others) doubled = Missed v
 
 -- the refusal that a covering gives, or else what follows
 abbrev pub judgement_of : Covering → Judgement → Judgement
-judgement_of (Missed v) next = refused (refusal variable_missed v.0)
-judgement_of (Doubled v) next = refused (refusal variable_twice v.0)
+judgement_of (Missed v) next = refused (refusal VariableMissed v.0)
+judgement_of (Doubled v) next = refused (refusal VariableTwice v.0)
 judgement_of Covered next = next

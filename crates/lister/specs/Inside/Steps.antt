@@ -1,11 +1,9 @@
 -- What the lister's functions ask for and leave: accepted words with their order, and the parts of a listing.
-use Rattle.std.specs.Prelude.{ℕ, zero, suc, ◌+◌, ◌-◌, ◌*◌, ◌≤◌, cond, List, [], ◌++◌, ◌≡◌, ltb, length}
+use Rattle.std.specs.Prelude.{ℕ, zero, suc, ◌+◌, ◌-◌, ◌*◌, ◌≤◌, cond, List, [], ◌++◌, ◌≡◌, ltb, length, Result, Ok, Err}
 use Rattle.paper.specs.Limits.{most_bytes, most_rows, most_transitions, most_variables, slots}
 use Rattle.table.specs.declared.Layout.{Layout}
 use Rattle.keys.specs.declared.Distinct.{Distinct}
 use Rattle.strategy.specs.declared.Accepted.{Accepted}
-use Rattle.strategy.specs.declared.Judged.{Judged}
-use Rattle.strategy.specs.declared.Judged.TheVariants as judged
 use Rattle.input.specs.Bytes.{words_of, judged_bytes}
 use Rattle.answers.specs.declared.numbered.Basis.{Basis}
 use Rattle.answers.specs.Inside.Judged.{AcceptedAs, Ordered, Based, BasedExactly}
@@ -13,6 +11,7 @@ use Rattle.listing.specs.Inside.Placed.{Put}
 use Rattle.lister.specs.declared.lines.Lines.{Lines}
 use Rattle.lister.specs.declared.parts.Part.{Part}
 use Rattle.lister.specs.Listing.{line_of, lines_from, first_of, transitions_of, lines_below}
+use Rattle.paper.specs.declared.Refusal.{Refusal}
 
 -- counts that fit, an order of so many labels, and room for two lines
 pub record Headed (a : Accepted) (order text : List ℕ) : Type 0 where
@@ -29,14 +28,14 @@ pub record Listable (words : List ℕ) (a : Accepted) (marks : List ℕ) (own : 
   pub based : Based words a.layout marks own
 
 -- of accepted words it is so
-abbrev pub AcceptedIf : List ℕ → Judged → Type 0
-AcceptedIf words j = (a : Accepted) → j ≡ judged.Accepted a → AcceptedAs words a
+abbrev pub AcceptedIf : List ℕ → Result Accepted Refusal → Type 0
+AcceptedIf words j = (a : Accepted) → j ≡ Ok a → AcceptedAs words a
 
-abbrev pub ListableIf : List ℕ → Judged → List ℕ → Distinct → List ℕ → Type 0
-ListableIf words j marks own order = (a : Accepted) → j ≡ judged.Accepted a → Listable words a marks own order
+abbrev pub ListableIf : List ℕ → Result Accepted Refusal → List ℕ → Distinct → List ℕ → Type 0
+ListableIf words j marks own order = (a : Accepted) → j ≡ Ok a → Listable words a marks own order
 
-abbrev pub BasedIf : List ℕ → Judged → Basis → Type 0
-BasedIf words j basis = (a : Accepted) → j ≡ judged.Accepted a → BasedExactly words a.layout basis
+abbrev pub BasedIf : List ℕ → Result Accepted Refusal → Basis → Type 0
+BasedIf words j basis = (a : Accepted) → j ≡ Ok a → BasedExactly words a.layout basis
 
 -- no transition's line is longer
 abbrev pub longest : Layout → ℕ
@@ -58,35 +57,35 @@ pub record LinesPut (words : List ℕ) (a : Accepted) (k : ℕ) (lent left : Lis
   pub put : Put lent 0 (lines_from words a.layout k lines.count) left lines.length
 
 -- The listing in pieces: piece 0 is the first part, and piece k + 1 the line of transition k. How many there are, and those below n joined.
-abbrev pub pieces : Judged → ℕ
+abbrev pub pieces : Result Accepted Refusal → ℕ
 pieces j = transitions_of j + 1
 
-abbrev pub pieces_below : List ℕ → Judged → ℕ → List ℕ
+abbrev pub pieces_below : List ℕ → Result Accepted Refusal → ℕ → List ℕ
 pieces_below words j zero = []
 pieces_below words j (suc k) = first_of words j ++ lines_below words j k
 
 -- The part that begins with piece n, with so much room: how many pieces it has, and its bytes.
-abbrev pub many_pieces : List ℕ → Judged → ℕ → ℕ → ℕ
+abbrev pub many_pieces : List ℕ → Result Accepted Refusal → ℕ → ℕ → ℕ
 many_pieces words j room zero = 1
-many_pieces words (judged.Refused r) room (suc k) = 0
-many_pieces words (judged.Accepted a) room (suc k) = many_lines words a room k
+many_pieces words (Err r) room (suc k) = 0
+many_pieces words (Ok a) room (suc k) = many_lines words a room k
 
-abbrev pub part_of : List ℕ → Judged → ℕ → ℕ → List ℕ
+abbrev pub part_of : List ℕ → Result Accepted Refusal → ℕ → ℕ → List ℕ
 part_of words j room zero = first_of words j
-part_of words (judged.Refused r) room (suc k) = []
-part_of words (judged.Accepted a) room (suc k) = lines_from words a.layout k (many_lines words a room k)
+part_of words (Err r) room (suc k) = []
+part_of words (Ok a) room (suc k) = lines_from words a.layout k (many_lines words a room k)
 
 -- it stands in front of what was there
-pub record PartPut (words : List ℕ) (j : Judged) (n : ℕ) (lent left : List ℕ) (part : Part) : Type 0 where
+pub record PartPut (words : List ℕ) (j : Result Accepted Refusal) (n : ℕ) (lent left : List ℕ) (part : Part) : Type 0 where
   pub many : part.next ≡ n + many_pieces words j (length lent) n
   pub put : Put lent 0 (part_of words j (length lent) n) left part.length
 
 -- of accepted words the reported order stands in front
-abbrev pub OrderedIf : List ℕ → Judged → List ℕ → Type 0
-OrderedIf words j order = (a : Accepted) → j ≡ judged.Accepted a → Ordered words a order
+abbrev pub OrderedIf : List ℕ → Result Accepted Refusal → List ℕ → Type 0
+OrderedIf words j order = (a : Accepted) → j ≡ Ok a → Ordered words a order
 
 -- the words and the judgement of bytes, with the reported order
-pub record Prepared (bytes words : List ℕ) (j : Judged) (order : List ℕ) : Type 0 where
+pub record Prepared (bytes words : List ℕ) (j : Result Accepted Refusal) (order : List ℕ) : Type 0 where
   pub answered : j ≡ judged_bytes bytes
   pub words_are : words ≡ words_of bytes
   pub ordered : OrderedIf words j order

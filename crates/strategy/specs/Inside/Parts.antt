@@ -1,5 +1,5 @@
 -- What the checks 10 to 14 ask of the parts of sound words, and what they leave.
-use Rattle.std.specs.Prelude.{ℕ, ◌*◌, ◌<◌, ◌≤◌, true, ◌≡◌, List, [], length, get_or}
+use Rattle.std.specs.Prelude.{ℕ, ◌*◌, ◌<◌, ◌≤◌, true, ◌≡◌, List, [], length, get_or, Result}
 use Rattle.paper.specs.Limits.{most_depth, most_reads, most_rows, most_variables}
 use Rattle.paper.specs.Formula.{Formula, WellFormed}
 use Rattle.paper.specs.Judgement.{Judgement, strangers, missed, doubled, judge_order, judge}
@@ -8,9 +8,10 @@ use Rattle.entries.specs.First.{first}
 use Rattle.rows.specs.Rows.{keeps_rules, is_deep}
 use Rattle.rows.specs.Formula.{formula_at}
 use Rattle.written.specs.Written.{Ascend}
-use Rattle.strategy.specs.declared.Judged.{Judged}
 use Rattle.strategy.specs.Verdict.{as_judged}
 use Rattle.strategy.specs.Judge.{proposal_of, words_of_order, left_by}
+use Rattle.paper.specs.declared.Refusal.{Refusal}
+use Rattle.strategy.specs.declared.Accepted.{Accepted}
 
 -- What the judgement of sound parts asks: rows that keep their rules, no deeper than 64, which so write the formula that is read
 -- from them, with reads that are variables, and chosen labels of those rows, strictly ascending.
@@ -38,7 +39,7 @@ pub record Covered (rows reads chosen : List ℕ) (#V #N : ℕ) : Type 0 where
   pub none_missed : missed #V (formula_of rows reads) (proposal_of chosen) ≡ []
   pub none_doubled : doubled #V (formula_of rows reads) (proposal_of chosen) ≡ []
 
-module _ (rows reads chosen : List ℕ) (l : Layout) (lent left : List ℕ) (r : Judged) where
+module _ (rows reads chosen : List ℕ) (l : Layout) (lent left : List ℕ) (r : Result Accepted Refusal) where
   -- a judgement of parts: its answer, and what it leaves in the words lent for the order
   pub record JudgedBy (j : Judgement) : Type 0 where
     pub answered : r ≡ as_judged l j

@@ -1,9 +1,8 @@
 -- What is known of sound words, all in one place, for the proofs of the layers above.
-use Rattle.std.specs.Prelude.{ℕ, suc, ◌+◌, ◌*◌, ◌<◌, ◌≤◌, true, List, ◌≡◌, length, get_or}
+use Rattle.std.specs.Prelude.{ℕ, suc, ◌+◌, ◌*◌, ◌<◌, ◌≤◌, true, List, ◌≡◌, length, get_or, Ok}
 use Rattle.paper.specs.Limits.{most_chosen, most_depth, most_reads, most_rows, most_variables, most_words}
 use Rattle.paper.specs.Formula.{labels, WellFormed}
 use Rattle.table.specs.declared.Layout.{Layout}
-use Rattle.table.specs.declared.Checked.TheVariants.{Sound}
 use Rattle.rows.specs.Rows.{keeps_rules}
 use Rattle.rows.specs.Inside.Looks.{Nested}
 use Rattle.table.specs.Table.{layout, names_in, reads_in, rows_in, chosen_in, checked}
@@ -48,4 +47,4 @@ pub record Understood (words : List ℕ) (l : Layout) : Type 0 where
 
 -- all words that pass the checks are so
 abbrev pub SoundUnderstood : List ℕ → Layout → Type 0
-SoundUnderstood words l = checked words ≡ Sound l → Understood words l
+SoundUnderstood words l = checked words ≡ Ok l → Understood words l

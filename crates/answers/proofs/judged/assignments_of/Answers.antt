@@ -1,18 +1,20 @@
 -- The checks in their order, and then the chosen labels that stand in reported order are copied.
 use native.Mathlib.Omega.{arith}
+use mathlib.Core.Path.{ap}
+use Rattle.std.specs.Prelude.{Err}
 use Rattle.answers.proofs.Accepted.{few-transitions}
 use Rattle.answers.proofs.Keeping.{assigned-as-key, assigned-front}
 use Rattle.answers.proofs.Answers.{absent, not-whole, whole}
 use Rattle.answers.proofs.judged.assignments_of.Goals as goal
 
-pub refused-requires : goal.refused-requires
-refused-requires c = few-transitions _ _ c.requires.accepted
+pub refusal_at-requires : goal.refusal_at-requires
+refusal_at-requires c = let n = few-transitions _ _ c.requires.accepted in omega arith
 
 pub returns-then-count-k : goal.returns-then-count-k
-returns-then-count-k c = absent _ _ _ _ _ _ c.if-count-k.true c.refused.ensures
+returns-then-count-k c = absent _ _ _ _ _ _ c.if-count-k.true (ap Err c.refusal_at.ensures)
 
-pub refused-requires-then-assigned-l : goal.refused-requires-then-assigned-l
-refused-requires-then-assigned-l c =
+pub refusal_at-requires-then-assigned-l : goal.refusal_at-requires-then-assigned-l
+refusal_at-requires-then-assigned-l c =
     let n = few-transitions _ _ c.requires.accepted in
     omega (arith, c.if-count-k.false)
 
@@ -20,11 +22,11 @@ pub returns-then-assigned-l : goal.returns-then-assigned-l
 returns-then-assigned-l c =
     let e = c.requires.accepted in
     not-whole _ _ _ _ _ _ c.if-count-k.false _ (assigned-as-key _ _ e _ c.if-count-k.false c.put_assigned-assigned.ensures) c.if-assigned-l.true
-    c.refused-then-assigned-l.ensures
+    (ap Err c.refusal_at-then-assigned-l.ensures)
 
 pub returns : goal.returns
 returns c =
     let e = c.requires.accepted in
     let front = assigned-front _ _ e _ c.if-count-k.false c.put_assigned-assigned.ensures in
     whole _ _ _ _ _ _ c.if-count-k.false _ (assigned-as-key _ _ e _ c.if-count-k.false c.put_assigned-assigned.ensures) c.if-assigned-l.false
-    (rw front at c.fill_words.ensures)
+    (rw front at c.fill.ensures)

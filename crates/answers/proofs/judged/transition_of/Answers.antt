@@ -1,29 +1,40 @@
 -- The checks in their order, and then the bytes that `keep` left are copied.
 use native.Mathlib.Omega.{arith}
+use mathlib.Core.Path.{ap}
+use Rattle.std.specs.Prelude.{Err}
 use Rattle.answers.proofs.Accepted.{few-transitions}
-use Rattle.answers.proofs.Keeping.{front-is, front-there}
+use Rattle.answers.proofs.Keeping.{front-is, front-there, front_length}
 use Rattle.answers.proofs.Answers.{absent, not-whole, whole}
 use Rattle.answers.proofs.judged.transition_of.Goals as goal
 
-pub refused-requires : goal.refused-requires
-refused-requires c = few-transitions _ _ c.requires
+pub refusal_at-requires : goal.refusal_at-requires
+refusal_at-requires c = let n = few-transitions _ _ c.requires in omega arith
 
 pub returns-then-count-k : goal.returns-then-count-k
-returns-then-count-k c = absent _ _ _ _ _ _ c.if-count-k.true c.refused.ensures
+returns-then-count-k c = absent _ _ _ _ _ _ c.if-count-k.true (ap Err c.refusal_at.ensures)
 
-pub refused-requires-then-chosen-l : goal.refused-requires-then-chosen-l
-refused-requires-then-chosen-l c =
+pub refusal_at-requires-then-chosen-l : goal.refusal_at-requires-then-chosen-l
+refusal_at-requires-then-chosen-l c =
     let n = few-transitions _ _ c.requires in
     omega (arith, c.if-count-k.false)
 
 pub returns-then-chosen-l : goal.returns-then-chosen-l
 returns-then-chosen-l c =
-    not-whole _ _ _ _ _ _ c.if-count-k.false _ c.keep-chosen.ensures.many c.if-chosen-l.true c.refused-then-chosen-l.ensures
+    not-whole _ _ _ _ _ _ c.if-count-k.false _ c.keep-chosen.ensures.many c.if-chosen-l.true (ap Err c.refusal_at-then-chosen-l.ensures)
 
-pub fill_bytes-requires : goal.fill_bytes-requires
-fill_bytes-requires c = front-there _ _ c.requires _ c.if-count-k.false _ _ c.keep-chosen.ensures.bytes
+pub slice_bounds-kept-end : goal.slice_bounds-kept-end
+slice_bounds-kept-end c = (front-there _ _ c.requires _ c.if-count-k.false _ _ c.keep-chosen.ensures.bytes).0
+
+pub slice_bounds-fill-end : goal.slice_bounds-fill-end
+slice_bounds-fill-end c = front_length _ _ c.requires _ c.if-count-k.false _ _ c.keep-chosen.ensures.bytes
+
+pub fill-requires : goal.fill-requires
+fill-requires c =
+    let n = front_length _ _ c.requires _ c.if-count-k.false _ _ c.keep-chosen.ensures.bytes in
+    let few = (front-there _ _ c.requires _ c.if-count-k.false _ _ c.keep-chosen.ensures.bytes).1 in
+    omega arith
 
 pub returns : goal.returns
 returns c =
     let front = front-is _ _ c.requires _ c.if-count-k.false _ _ c.keep-chosen.ensures.bytes in
-    whole _ _ _ _ _ _ c.if-count-k.false _ c.keep-chosen.ensures.many c.if-chosen-l.false (rw front at c.fill_bytes.ensures)
+    whole _ _ _ _ _ _ c.if-count-k.false _ c.keep-chosen.ensures.many c.if-chosen-l.false (rw front at c.fill.ensures)

@@ -1,5 +1,5 @@
 -- `fill_words` puts the words one after another: the invariant is that the words of the bytes passed stand in front.
-use Rattle.filling.proofs.Copies.{copy-starts}
+use Rattle.input.proofs.Copies.{copy-starts}
 use Rattle.input.proofs.BytePairs.{word-put, words-in}
 use Rattle.input.proofs.words.fill_words.Goals as goal
 

@@ -7,13 +7,13 @@ use Rattle.lister.proofs.parts.put_part.Goals as goal
 
 pub put_accepted_part-requires : goal.put_accepted_part-requires
 put_accepted_part-requires c =
-    let e = c.in-Accepted.is in
+    let e = c.in-Ok.is in
     (c.requires.0 _ e, subst (λ j. c.args.next < pieces j) e c.requires.1, c.requires.2)
 
-pub returns-in-Accepted : goal.returns-in-Accepted
-returns-in-Accepted c = rw c.in-Accepted.is c.put_accepted_part.ensures
+pub returns-in-Ok : goal.returns-in-Ok
+returns-in-Ok c = rw c.in-Ok.is c.put_accepted_part.ensures
 
-pub returns-in-Refused : goal.returns-in-Refused
-returns-in-Refused c =
-    let e = c.in-Refused.is in
-    rw e (refused-part _ (subst (λ j. c.args.next < pieces j) e c.requires.1) c.put_refused.ensures.put)
+pub returns-in-Err : goal.returns-in-Err
+returns-in-Err c =
+    let e = c.in-Err.is in
+    rw e (refused-part _ (subst (λ j. c.args.next < pieces j) e c.requires.1) (rw c.from.ensures at c.put_refused.ensures.put))

@@ -6,17 +6,17 @@ use Rattle.nocturenc.proofs.Reading.{read-counts, read-refused}
 use Rattle.nocturenc.proofs.exported.nocturenc_judge.Goals as goal
 
 pub packed_counts-requires : goal.packed_counts-requires
-packed_counts-requires c = counts-fit _ _ (sym c.judge-answer.ensures ∙ c.in-Accepted.is)
+packed_counts-requires c = counts-fit _ _ (sym c.judge.ensures ∙ c.in-Ok.is)
 
-pub returns-in-Accepted : goal.returns-in-Accepted
-returns-in-Accepted c =
-    let e = sym c.in-Accepted.is ∙ c.judge-answer.ensures in
+pub returns-in-Ok : goal.returns-in-Ok
+returns-in-Ok c =
+    let e = sym c.in-Ok.is ∙ c.judge.ensures in
     let n = c.packed_counts.result in
     subst (λ a. AnswerPacked a n) e (read-counts _ n (counts-fit _ _ (sym e)) c.packed_counts.ensures)
 
-pub returns-in-Refused : goal.returns-in-Refused
-returns-in-Refused c =
-    let e = sym c.in-Refused.is ∙ c.judge-answer.ensures in
+pub returns-in-Err : goal.returns-in-Err
+returns-in-Err c =
+    let e = sym c.in-Err.is ∙ c.judge.ensures in
     let n = c.packed_refusal.result in
     let p = c.packed_refusal.ensures in
     subst (λ a. AnswerPacked a n) e (read-refused _ n p.value p.read_refusal)

@@ -1,9 +1,12 @@
 -- The judgement's refusal is the answer, or what is asked of the accepted table is.
+use Rattle.std.proofs.lemmas.Result.{err_from_is_err_and}
 use Rattle.answers.proofs.Answers.{refused-first, accepted-first}
 use Rattle.nocturenc.proofs.requests.transition.Goals as goal
 
-pub returns-in-Accepted : goal.returns-in-Accepted
-returns-in-Accepted c = accepted-first _ _ c.judge-judged.ensures _ c.in-Accepted.is _ c.transition_of.ensures
+pub returns : goal.returns
+returns c = accepted-first _ _ c.judge.ensures _ c.in_ok-accepted.was _ c.transition_of.ensures
 
-pub returns-in-Refused : goal.returns-in-Refused
-returns-in-Refused c = refused-first _ _ c.judge-judged.ensures _ c.in-Refused.is _ _
+pub returns-in_err-accepted : goal.returns-in_err-accepted
+returns-in_err-accepted c =
+    let p = err_from_is_err_and c.from_residual.result c.from_residual.ensures.1 in
+    rw (p.1, p.2) (refused-first _ _ c.judge.ensures _ c.in_err-accepted.was _ _)

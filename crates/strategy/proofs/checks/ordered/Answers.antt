@@ -1,7 +1,11 @@
 -- The net is noted, the order worked out from it, and what it leaves decides: a cycle, or the count. Where the count accepts, the order
 -- is copied.
 use native.Mathlib.Omega.{arith}
-use mathlib.Core.Path.{refl}
+use mathlib.Core.Path.{refl, sym, ap, ◌∙◌}
+use Rattle.std.specs.Prelude.{Err}
+use Rattle.std.proofs.lemmas.Result.{err_from_is_err_and}
+use Rattle.paper.specs.declared.refusals.Fault.TheVariants.{NoOrder}
+use Rattle.paper.specs.Refusals.{refusal}
 use Rattle.strategy.proofs.Held.{walkable}
 use Rattle.strategy.proofs.Placed.{choice, readied}
 use Rattle.strategy.proofs.Answers.{cycle-there, cycle-refused, count-refused, count-accepted}
@@ -29,15 +33,18 @@ bounds-chosen-k c =
 
 pub returns-then-placed-chosen : goal.returns-then-placed-chosen
 returns-then-placed-chosen c =
-    cycle-refused _ c.requires.0 c.order-placed.ensures _ c.if-placed-chosen.true c.lowest_on_cycle-k.ensures c.refused.ensures
+    cycle-refused _ c.requires.0 c.order-placed.ensures _ c.if-placed-chosen.true c.lowest_on_cycle-k.ensures (ap Err (c.refusal_at.ensures ∙ ap (refusal NoOrder) c.from.ensures))
 
-pub counted-judged-requires : goal.counted-judged-requires
-counted-judged-requires c = walkable c.requires.0.parts
+pub counted-requires : goal.counted-requires
+counted-requires c = walkable c.requires.0.parts
 
-pub returns-in_default : goal.returns-in_default
-returns-in_default c =
-    count-refused _ c.requires.0 c.order-placed.ensures c.if-placed-chosen.false c.requires.1 c.counted-judged.ensures _ c.in_default.is
+pub returns-in_err-accepted : goal.returns-in_err-accepted
+returns-in_err-accepted c =
+    let p = err_from_is_err_and c.from_residual.result c.from_residual.ensures.1 in
+    rw (p.1, p.2)
+    (count-refused _ c.requires.0 c.order-placed.ensures c.if-placed-chosen.false c.requires.1 (sym c.in_err-accepted.was ∙ c.counted.ensures) _ refl)
 
 pub returns : goal.returns
 returns c =
-    count-accepted _ c.requires.0 c.order-placed.ensures c.if-placed-chosen.false c.requires.1 c.counted-judged.ensures c.in-Accepted.is c.copy_words.ensures
+    count-accepted _ c.requires.0 c.order-placed.ensures c.if-placed-chosen.false c.requires.1 (sym c.in_ok-accepted.was ∙ c.counted.ensures) refl
+    (simp c.copy_from_slice.ensures.after)

@@ -1,5 +1,4 @@
--- Copying word by word leaves what `copied` says; and a request that fills does what its outcome says: refused at once with all as
--- it was, refused for want of room, or filled.
+-- Copying word by word leaves what `copied` says.
 use Prim.Native.Nat.{ℕ, suc, ◌+◌, ◌<◌, ◌≤◌}
 use native.Mathlib.Numerals.{add-one}
 use native.Mathlib.Omega.{arith}
@@ -7,13 +6,8 @@ use mathlib.Core.Path.{◌≡◌, refl, sym, ap, ◌∙◌}
 use mathlib.Core.List.{List, ◌++◌}
 use lib.ListN.{length, get_or, take, drop, set, length-set}
 use lib.Seq.{drop-cons, take-suc, set_at, append_snoc, take_all, length-take-le}
-use borrow.Author.Tests.{lt-ltb, le-ltb}
-use Rattle.paper.specs.Refusals.{refusal, out_too_short}
 use Rattle.entries.specs.Front.{in_front}
-use Rattle.filling.specs.declared.Filled.{Filled}
-use Rattle.filling.specs.declared.Filled.TheVariants as filled
-use Rattle.filling.specs.Filling.{refuses, unless_short, filled_of, Fills}
-use Rattle.filling.specs.Inside.Copied.{copied}
+use Rattle.input.specs.Inside.Copied.{copied}
 
 pub copied_none : (from out : List ℕ) → out ≡ copied from 0 out
 unfolding copied
@@ -52,16 +46,3 @@ module _ (from : List ℕ) (count : ℕ) (lent : List ℕ) where
 
   pub copy-ends : (out : List ℕ) (i : ℕ) → count ≤ i → Copying from count lent out i → out ≡ copied from count lent
   copy-ends out i h c = let e : i ≡ count = omega arith in c.stands ∙ ap (λ (n : ℕ). copied from n lent) e
-
-module _ (from lent : List ℕ) (count : ℕ) (there : count ≤ length from) where
-  pub too_short : {r : Filled} → length lent < count → r ≡ filled_of (refuses (refusal out_too_short count))
-      → Fills (unless_short (length lent) (take count from)) lent lent r
-  too_short h e = rw (length-take-le count from there, lt-ltb (length lent) count h) (record { answered = e; left_so = refl })
-
-  pub filled-front : {left : List ℕ} → count ≤ length lent → left ≡ copied from count lent
-      → Fills (unless_short (length lent) (take count from)) lent left (filled.Done (record { count = count }))
-  unfolding copied
-  filled-front h e =
-      let n = length-take-le count from there in
-      rw (n, le-ltb (length lent) count h)
-      (record { answered = ap (λ k. filled.Done (record { count = k })) (sym n); left_so = e ∙ ap (λ k. take count from ++ drop k lent) (sym n) })
