@@ -11,9 +11,11 @@ ghost use Rattle.rows.specs.Inside.Looks.{InRows};
 ghost use Rattle.paper.specs.Limits.{most_rows};
 
 pub mod depth; // how deep rows lie: refusal 8
+pub mod form; // the form that a row's kind word names
 pub mod walk; // the expressions under a row, for the walks of the layers above
 
 use entries::{are_ascending, wide};
+use form::{Form, form_of};
 use paper::{Label, Variable};
 
 // The kind word of a row.
@@ -86,7 +88,7 @@ fn guard_meets(rows: &[u16], n: u16, at: Label, m: u16) -> bool
     if end.0 <= first.0 {
         return false;
     }
-    if kind_of(rows, first) != 1 {
+    if form_of(rows, first) != Form::Star {
         return false;
     }
     children_meet(rows, end, first, m)
@@ -196,7 +198,7 @@ fn taken_by(rows: &[u16], at: Label) -> usize
     requires { 4 * at.0 + 4 ≤ length rows.now }
     ensures { result ≡ takes (form_of (kind_of rows.now at.0)) (arg_of rows.now at.0) }
 {
-    if kind_of(rows, at) == 1 {
+    if form_of(rows, at) == Form::Star {
         return wide(arg_of(rows, at));
     }
     0

@@ -4,7 +4,8 @@ use mathlib.Core.Path.{◌≡◌, sym, ap, ◌∙◌}
 use mathlib.Core.Bool.{true}
 use borrow.Author.Rules.{rules}
 use native.Mathlib.Omega.{arith}
-use Rattle.rows.specs.Rows.{no_form, kind_of, end_of, form_of, keeps_form, ends_within, keeps_rules}
+use Rattle.rows.specs.Rows.{kind_of, end_of, form_of, keeps_form, ends_within, keeps_rules}
+use Rattle.rows.specs.declared.form.Form.TheVariants as form
 use Rattle.rows.proofs.Rules.{number_of, no-form, ends-le, ends-badly, from-elsewhere, by_kind}
 use Rattle.paper.specs.Formula.{ℓ}
 use Rattle.paper.specs.declared.Label.{Label}
@@ -85,6 +86,6 @@ returns-in-6 c = c.keeps_bound-in-6.ensures ∙ sym (kind-decides (goal.at.retur
 pub returns-in-7-to-65535 : goal.returns-in-7-to-65535
 returns-in-7-to-65535 c =
     let k = c.kind_of-kind.result in
-    let none : form_of k ≡ no_form = no-form k (λ e. omega arith) (λ e. omega arith) (λ e. omega arith) (λ e. omega arith)
+    let none : form_of k ≡ form.Unknown = no-form k (λ e. omega arith) (λ e. omega arith) (λ e. omega arith) (λ e. omega arith)
     (λ e. omega arith) (λ e. omega arith) (λ e. omega arith) in
     sym (kind-decides (goal.at.returns-in-7-to-65535 c).Else-wide-taken k (sym c.kind_of-kind.ensures) ∙ ap (keeps_form _ _ _ _) none)
