@@ -25,6 +25,10 @@ use Rattle.rows.proofs.Meets.{of-no-child}
 pub number_of : {l : Label} {n : ℕ} → l ≡ ℓ n → l.0 ≡ n
 number_of e = ap (λ (l : Label). l.0) e
 
+-- so many fewer, and one fewer still
+pub less_one : (m i : ℕ) → m - (i + 1) ≡ m - i - 1
+less_one m i = omega arith
+
 -- a conjunction taken apart
 pub and_parts : (a b : Bool) → (a && b) ≡ true → (a ≡ true) × (b ≡ true)
 and_parts a b e = (and_left a b e, and_right a b e)

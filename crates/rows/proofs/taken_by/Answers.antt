@@ -10,7 +10,7 @@ use Rattle.rows.proofs.taken_by.Goals as goal
 pub returns-then-eq : goal.returns-then-eq
 returns-then-eq c =
     let star = same_true the_type (search rules) _ _ (sym c.if-eq.ensures) in
-    c.wide.ensures ∙ c.arg_of.ensures ∙ sym (takes_star _ (sym c.form_of.ensures ∙ star))
+    c.from.ensures ∙ c.arg_of.ensures ∙ sym (takes_star _ (sym c.form_of.ensures ∙ star))
 
 pub returns : goal.returns
 returns c =
