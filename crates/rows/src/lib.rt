@@ -18,12 +18,13 @@ use entries::are_ascending;
 use form::{Form, form_of};
 use paper::{Label, Variable};
 
+// The four words of a row are read apart: the layers above hold lent words and a label, and mostly want one word of a row.
 // The kind word of a row.
 pub fn kind_of(rows: &[u16], at: Label) -> u16
     requires { 4 * at.0 + 4 ≤ length rows.now }
     ensures { result ≡ kind_of rows.now at.0 }
 {
-    let i = at.0 as usize;
+    let i = usize::from(at.0);
     rows[4 * i]
 }
 
@@ -32,7 +33,7 @@ pub fn arg_of(rows: &[u16], at: Label) -> u16
     requires { 4 * at.0 + 4 ≤ length rows.now }
     ensures { result ≡ arg_of rows.now at.0 }
 {
-    let i = at.0 as usize;
+    let i = usize::from(at.0);
     rows[4 * i + 1]
 }
 
@@ -41,7 +42,7 @@ pub fn end_of(rows: &[u16], at: Label) -> Label
     requires { 4 * at.0 + 4 ≤ length rows.now }
     ensures { result ≡ ℓ (end_of rows.now at.0) }
 {
-    let i = at.0 as usize;
+    let i = usize::from(at.0);
     Label(rows[4 * i + 2])
 }
 
@@ -50,7 +51,7 @@ pub fn from_of(rows: &[u16], at: Label) -> u16
     requires { 4 * at.0 + 4 ≤ length rows.now }
     ensures { result ≡ from_of rows.now at.0 }
 {
-    let i = at.0 as usize;
+    let i = usize::from(at.0);
     rows[4 * i + 3]
 }
 
@@ -72,7 +73,7 @@ impl Row<'_> {
         ensures { result ≡ meets self.entry.rows.now self.entry.end.0 (self.entry.at.0 + 1) m }
     {
         let mut here = Label(self.at.0 + 1);
-        for i in 0..m {
+        for _i in 0..m {
             if self.end.0 <= here.0 {
                 return false;
             }

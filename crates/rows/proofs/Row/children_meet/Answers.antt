@@ -21,7 +21,7 @@ returns-then-self-next c =
 pub loop-i-preserved : goal.loop-i-preserved
 loop-i-preserved c =
     let e = number_of c.end_of-next.ensures in
-    rw (e, less_one c.args.m c.loop-i.i) (c.loop-i.invariant ∙ meets_on _ _ _ _ (omega arith) (omega arith) (omega arith) (omega arith))
+    rw (e, less_one c.args.m c.loop-i._i) (c.loop-i.invariant ∙ meets_on _ _ _ _ (omega arith) (omega arith) (omega arith) (omega arith))
 
 pub returns : goal.returns
 returns c = sym (c.loop-i.invariant ∙ meets-end _ _ _ _ (omega arith))

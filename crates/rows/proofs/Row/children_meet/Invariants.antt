@@ -6,4 +6,4 @@ use Rattle.rows.proofs.Row.children_meet.Given as goal
 
 abbrev pub invariant-loop-i : goal.invariant-loop-i
 invariant-loop-i l =
-    meets l.self.rows.now l.self.end.0 (l.self.at.0 + 1) l.m ≡ meets l.self.rows.now l.self.end.0 l.here.0 (l.m - l.i)
+    meets l.self.rows.now l.self.end.0 (l.self.at.0 + 1) l.m ≡ meets l.self.rows.now l.self.end.0 l.here.0 (l.m - l._i)

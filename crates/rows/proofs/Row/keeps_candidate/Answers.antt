@@ -6,7 +6,9 @@ use Rattle.rows.proofs.Row.keeps_candidate.Goals as goal
 
 pub returns-then-from-variables : goal.returns-then-from-variables
 unfolding candidate_rule
-returns-then-from-variables c = simp (← c.arg_of.ensures, ← c.from.ensures, lt-ltb _ _ c.if-from-variables.true) c.guard_meets.ensures
+returns-then-from-variables c =
+    let below = lt-ltb c.from.result c.args.variables (omega arith) in
+    simp (← c.arg_of.ensures, ← c.from.ensures, below) c.guard_meets.ensures
 
 pub returns-else-from-variables : goal.returns-else-from-variables
 unfolding candidate_rule
