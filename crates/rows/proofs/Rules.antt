@@ -11,7 +11,8 @@ use lib.Dec.{ltb, leb, eqb}
 use borrow.Author.Tests.{ltb-true, leb-true, eqb-true, eq-eqb, ne_eqb}
 use Rattle.paper.specs.declared.Label.{Label}
 use Rattle.paper.specs.Formula.{ℓ}
-use Rattle.paper.proofs.Bools.{and_left, and_right}
+use Rattle.std.proofs.lemmas.Bool.{and_parts}
+use Rattle.paper.proofs.Bools.{and_left}
 use Rattle.entries.specs.First.{first}
 use Rattle.rows.specs.Rows.{kind_of, arg_of, end_of, from_of, form_of}
 use Rattle.rows.specs.declared.form.Form.{Form}
@@ -28,10 +29,6 @@ number_of e = ap (λ (l : Label). l.0) e
 -- so many fewer, and one fewer still
 pub less_one : (m i : ℕ) → m - (i + 1) ≡ m - i - 1
 less_one m i = omega arith
-
--- a conjunction taken apart
-pub and_parts : (a b : Bool) → (a && b) ≡ true → (a ≡ true) × (b ≡ true)
-and_parts a b e = (and_left a b e, and_right a b e)
 
 -- the part that is lent by `&reads[from..]`
 pub rest : (ws : List ℕ) (a : ℕ) → take (length ws - a) (drop a ws) ≡ drop a ws

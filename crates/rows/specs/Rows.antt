@@ -19,7 +19,7 @@ end_of rows i = get_or rows (4 * i + 2) 0
 abbrev pub from_of : List ℕ → ℕ → ℕ
 from_of rows i = get_or rows (4 * i + 3) 0
 
--- the form of document 001 that a kind word names
+-- the form of document 001 that a kind word names; the forms themselves stand in src/form.rt
 unfoldable pub form_of : ℕ → Form
 form_of k =
     cond (eqb k 0) form.False
