@@ -23,6 +23,16 @@ REFUSAL = {
     "u64": "Rattle.nocturenc.specs.Packed.IsPackedRefusal",
 }
 
+# The form of a generic function's statement, over its type parameter and all that the parameter's bound brings. One that is handed
+# a test has one outcome where that test has one answer at each number.
+GENERIC = {
+    "entries::first_where": (
+        "(T : denote.RattleType.RattleType) (L : denote.Param.Laws.Laws T) (F : {contract}.F-Fn.Ghosts T) (d e f g : mir.Syntax.Dict)"
+        " → {said}.OneOutcome ({path}.Kinds.ps T L) ({path}.Kinds.r T L) (λ κs a. {path}.Reads.Pre T L F d e f g κs a"
+        " × Rattle.entries.specs.Inside.Asked.OneAnswer (({contract}.F-Fn.words T F).post a.1.0) a.0) ({path}.Reads.Post T L F d e f g)"
+    ),
+}
+
 failures = []
 
 
@@ -78,7 +88,7 @@ def public_functions(crate):
         text = without("//", path)
         methods = [(i.group(1), i.end() - 1) for i in re.finditer(r"\bimpl\b[^{;]*?\b([A-Z]\w*)\s*(?:<[^>]*>)?\s*\{", text)]
         methods = [(name, start, closing(text, start)) for name, start in methods]
-        for item in re.finditer(r'\bpub\b\s*(?:\([^)]*\)\s*)?(extern\s*""\s*)?fn\s+(\w+)\s*(?:<[^>]*>)?\s*\(', text):
+        for item in re.finditer(r'\bpub\b\s*(?:\([^)]*\)\s*)?(extern\s*""\s*)?fn\s+(\w+)\s*(?:<(?:->|[^<>])*>)?\s*\(', text):
             end = closing(text, item.end() - 1)
             result = re.match(r"\s*->\s*(\S+)", text[end + 1 :])
             owner = [name for name, start, stop in methods if start < item.start() < stop]
@@ -127,7 +137,10 @@ def statements(crate, file):
 
 
 def one_outcome(f):
-    """Over the prover's reading of the contract or, for a function that is walked by hand, over the contract's clauses."""
+    """Over the prover's reading of the contract or, for a function that is walked by hand, over the contract's clauses; of a generic
+    function in the form above."""
+    if f.shown in GENERIC:
+        return [GENERIC[f.shown].format(said=SAID, path=f.path, contract=f.path.replace(".proofs", ".specs.contracts", 1))]
     read = f"{SAID}.OneOutcome {f.path}.Kinds.ps {f.path}.Kinds.r {f.path}.Reads.Pre {f.path}.Reads.Post"
     return [read, f"{SAID}.OneOutcomeWalked {f.path}.ended (λ M. {f.path}.clauses)"]
 

@@ -1,9 +1,13 @@
 -- Laws of `first`: where a search for the lowest offender stops, and what it has shown of what it passed.
 use Prim.Native.Nat.{ℕ, zero, suc, ◌<◌, ◌≤◌}
 use native.Mathlib.Omega.{arith}
+use native.Mathlib.Nat.{eq-or-lt_of_le}
 use mathlib.Core.Bool.{Bool, true, false, cond, ◌||◌, true≢false}
-use mathlib.Core.Path.{◌≡◌, refl, ap}
+use mathlib.Core.Path.{◌≡◌, refl, sym, ap, ◌∙◌}
+use Rattle.std.proofs.lemmas.Bool.{cases_lt}
+use Rattle.paper.proofs.Bools.{pick}
 use Rattle.entries.specs.First.{first}
+use Rattle.entries.specs.Inside.Asked.{FirstAsked, OneAnswer}
 
 -- a search that stopped at i
 pub first_found : (bad : ℕ → Bool) (n i : ℕ) → ((k : ℕ) → k < i → bad k ≡ false) → i < n → bad i ≡ true → first bad n ≡ i
@@ -58,6 +62,27 @@ pub first-same : (p q : ℕ → Bool) (n : ℕ) → ((k : ℕ) → k < n → p k
 unfolding first
 first-same p q zero e = refl
 first-same p q (suc n) e = cc (e 0 (omega arith), first-same (λ k. p (suc k)) (λ k. q (suc k)) n (λ k h. e (suc k) (omega arith)))
+
+-- whoever asks a test that answers as `bad` does finds what `first` finds
+pub first_by : {answers : ℕ → Bool → Type 0} (bad : ℕ → Bool) {n found : ℕ} → FirstAsked answers n found
+    → ((k : ℕ) (b : Bool) → k < n → answers k b → b ≡ bad k) → found ≡ first bad n
+first_by bad {n} {found} asked agree =
+    pick (eq-or-lt_of_le asked.within)
+    (λ e. e ∙ sym (first-none bad n (λ k h. stays k (omega arith))))
+    (λ h. sym (first_found bad n found stays h (sym (agree found true h (asked.stopped h)))))
+  where
+    stays : (k : ℕ) → k < found → bad k ≡ false
+    stays k h = sym (agree k false (omega (arith, asked.within)) (asked.passed k h))
+
+-- and where a test has one answer at each k, there is one find
+module _ {answers : ℕ → Bool → Type 0} {n : ℕ} (one : OneAnswer answers n) where
+  level : (a b : ℕ) → FirstAsked answers n a → FirstAsked answers n b → a ≤ b → a ≡ b
+  level a b p q h =
+      pick (eq-or-lt_of_le h) (λ e. e)
+      (λ l. let low : a < n = omega (arith, q.within) in absurd (one a low (q.passed a l) (p.stopped low)))
+
+  pub first_once : (a b : ℕ) → FirstAsked answers n a → FirstAsked answers n b → a ≡ b
+  first_once a b p q = pick (cases_lt a b) (λ h. level a b p q (omega arith)) (λ h. sym (level b a q p h))
 
 -- two tests at once
 pub neither : (a b : Bool) → (a || b) ≡ false → (a ≡ false) × (b ≡ false)

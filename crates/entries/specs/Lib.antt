@@ -1,3 +1,4 @@
 pub mod First
 pub mod Entries
 pub mod Front
+pub mod Inside

@@ -1,9 +1,10 @@
 // Entries, one word each: the lowest that is not above the one before, or that is beyond a limit (refusals 4, 5 and 9, and a
-// star's reads in 6).
+// star's reads in 6). A search gives its n where there is none, as `first` does.
 #![tactic(auto)]
 
-ghost use Rattle.std.specs.Prelude.{◌≡◌, ◌≤◌, ◌<◌, min, ◌||◌, length};
+ghost use Rattle.std.specs.Prelude.{◌≡◌, ℕ, ◌≤◌, ◌<◌, min, ◌||◌, length};
 ghost use Rattle.entries.specs.First.{first};
+ghost use Rattle.entries.specs.Inside.Asked.{FirstAsked};
 ghost use Rattle.entries.specs.Entries.{falls, ascend, beyond};
 
 use paper::{Label, Variable};
@@ -22,19 +23,25 @@ pub fn least(a: usize, b: usize) -> usize
     if a < b { a } else { b }
 }
 
+// The lowest k below n with `is_bad(k)`, or n.
+pub fn first_where<F: Fn(usize) -> bool>(n: usize, is_bad: F) -> usize
+    requires { (k : ℕ) → k < n → F.pre is_bad k }
+    ensures { FirstAsked (F.post is_bad) n result }
+{
+    for k in 0..n {
+        if is_bad(k) {
+            return k;
+        }
+    }
+    n
+}
+
 // The lowest of n words that is not above the one before, or n.
 pub fn first_fall(words: &[u16], n: usize) -> usize
     requires { n ≤ length words.now }
     ensures { result ≡ first (falls words.now) n }
 {
-    let mut k = 1;
-    while k < n {
-        if words[k] <= words[k - 1] {
-            return k;
-        }
-        k += 1;
-    }
-    n
+    first_where(n, |k| 0 < k && words[k] <= words[k - 1])
 }
 
 // Whether the first m words are there, and strictly ascend.
@@ -52,43 +59,19 @@ pub fn first_beyond(entries: &[u16], n: usize, variables: usize) -> usize
     requires { n ≤ length entries.now }
     ensures { result ≡ first (beyond entries.now variables) n }
 {
-    let mut k = 0;
-    while k < n {
+    first_where(n, |k| {
         let v = Variable(entries[k]);
-        if variables <= wide(v.0) {
-            return k;
-        }
-        k += 1;
-    }
-    n
+        variables <= usize::from(v.0)
+    })
 }
 
-// Whether entry k of a strategy is no label below `rows`, or not above the one before.
-fn is_unfit(entries: &[u16], k: usize, rows: usize) -> bool
-    requires { k < length entries.now }
-    ensures { result ≡ (beyond entries.now rows k || falls entries.now k) }
-{
-    let l = Label(entries[k]);
-    if rows <= wide(l.0) {
-        return true;
-    }
-    if k == 0 {
-        return false;
-    }
-    l.0 <= entries[k - 1]
-}
-
-// The lowest of n entries of a strategy that is unfit, or n.
+// The lowest of n entries of a strategy that is no label below `rows`, or not above the one before, or n.
 pub fn first_unfit(entries: &[u16], n: usize, rows: usize) -> usize
     requires { n ≤ length entries.now }
     ensures { result ≡ first (λ k. beyond entries.now rows k || falls entries.now k) n }
 {
-    let mut k = 0;
-    while k < n {
-        if is_unfit(entries, k, rows) {
-            return k;
-        }
-        k += 1;
-    }
-    n
+    first_where(n, |k| {
+        let l = Label(entries[k]);
+        rows <= usize::from(l.0) || (0 < k && l.0 <= entries[k - 1])
+    })
 }

@@ -5,7 +5,9 @@ use mathlib.Core.Path.{◌≡◌, refl}
 use mathlib.Core.Bool.{Bool, true, false, cond}
 use lib.Dec.{eqb}
 use borrow.Author.Tests.{eqb-true, eqb-false}
-use Rattle.rows.specs.Rows.{Form, a_false, a_star, a_candidate, a_conjunction, a_disjunction, an_exists, an_if, no_form, form_of}
+use Rattle.rows.specs.Rows.{form_of}
+use Rattle.rows.specs.declared.form.Form.{Form}
+use Rattle.rows.specs.declared.form.Form.TheVariants as form
 
 module _ (P : Form → Type 0) (k : ℕ) where
   -- a word that is n or more is n, or above it
@@ -16,9 +18,9 @@ module _ (P : Form → Type 0) (k : ℕ) where
       go true e = so (eqb-true k n e)
       go false e = let apart = eqb-false k n e in above (omega arith)
 
-  pub by_form : (k ≡ 0 → P a_false) → (k ≡ 1 → P a_star) → (k ≡ 2 → P a_candidate) → (k ≡ 3 → P a_conjunction)
-      → (k ≡ 4 → P a_disjunction) → (k ≡ 5 → P an_exists)
-      → (k ≡ 6 → P an_if) → (6 < k → P no_form) → P (form_of k)
+  pub by_form : (k ≡ 0 → P form.False) → (k ≡ 1 → P form.Star) → (k ≡ 2 → P form.Candidate) → (k ≡ 3 → P form.Conjunction)
+      → (k ≡ 4 → P form.Disjunction) → (k ≡ 5 → P form.Exists)
+      → (k ≡ 6 → P form.If) → (6 < k → P form.Unknown) → P (form_of k)
   unfolding form_of
   by_form a b c d e f g none =
       by-test 0 (omega arith) a (λ h. by-test 1 h b (λ h. by-test 2 h c (λ h. by-test 3 h d

@@ -5,6 +5,7 @@ use Rattle.paper.specs.Outcome.{OneOutcome}
 use Rattle.paper.proofs.Outcome.{by-equation}
 use Rattle.rows.proofs as rows
 use Rattle.rows.proofs.depth as depth
+use Rattle.rows.proofs.form as form
 use Rattle.rows.proofs.walk as walk
 
 pub kind-of : OneOutcome rows.kind_of.Kinds.ps rows.kind_of.Kinds.r rows.kind_of.Reads.Pre rows.kind_of.Reads.Post
@@ -18,6 +19,9 @@ end-of κs a pre x y v w p q = (by-equation p q, refl)
 
 pub from-of : OneOutcome rows.from_of.Kinds.ps rows.from_of.Kinds.r rows.from_of.Reads.Pre rows.from_of.Reads.Post
 from-of κs a pre x y v w p q = (by-equation p q, refl)
+
+pub form-of : OneOutcome form.form_of.Kinds.ps form.form_of.Kinds.r form.form_of.Reads.Pre form.form_of.Reads.Post
+form-of κs a pre x y v w p q = (by-equation p q, refl)
 
 pub first-broken : OneOutcome rows.first_broken.Kinds.ps rows.first_broken.Kinds.r rows.first_broken.Reads.Pre rows.first_broken.Reads.Post
 first-broken κs a pre x y v w p q = (ap ℓ (by-equation p q), refl)

@@ -11,10 +11,12 @@ use lib.Dec.{ltb, leb, eqb}
 use borrow.Author.Tests.{ltb-true, leb-true, eqb-true, eq-eqb, ne_eqb}
 use Rattle.paper.specs.declared.Label.{Label}
 use Rattle.paper.specs.Formula.{ℓ}
-use Rattle.paper.proofs.Bools.{and_left, and_right}
+use Rattle.std.proofs.lemmas.Bool.{and_parts}
+use Rattle.paper.proofs.Bools.{and_left}
 use Rattle.entries.specs.First.{first}
 use Rattle.rows.specs.Rows.{kind_of, arg_of, end_of, from_of, form_of}
-use Rattle.rows.specs.Rows.{Form, a_false, a_star, a_candidate, a_conjunction, a_disjunction, an_exists, an_if, no_form}
+use Rattle.rows.specs.declared.form.Form.{Form}
+use Rattle.rows.specs.declared.form.Form.TheVariants as form
 use Rattle.rows.specs.Rows.{meets, taken_before, guarded, false_rule, star_rule, candidate_rule, join_rule, bound_rule, keeps_form, ends_within, keeps_rules}
 use Rattle.entries.specs.Entries.{falls, ascend}
 use Rattle.rows.proofs.Forms.{by_form}
@@ -24,9 +26,9 @@ use Rattle.rows.proofs.Meets.{of-no-child}
 pub number_of : {l : Label} {n : ℕ} → l ≡ ℓ n → l.0 ≡ n
 number_of e = ap (λ (l : Label). l.0) e
 
--- a conjunction taken apart
-pub and_parts : (a b : Bool) → (a && b) ≡ true → (a ≡ true) × (b ≡ true)
-and_parts a b e = (and_left a b e, and_right a b e)
+-- so many fewer, and one fewer still
+pub less_one : (m i : ℕ) → m - (i + 1) ≡ m - i - 1
+less_one m i = omega arith
 
 -- the part that is lent by `&reads[from..]`
 pub rest : (ws : List ℕ) (a : ℕ) → take (length ws - a) (drop a ws) ≡ drop a ws
@@ -34,30 +36,45 @@ rest ws a = take_all (length ws - a) (drop a ws) (simp length-drop (omega arith)
 
 -- the kind word of a form
 pub data KindIs (k : ℕ) : Form → Type 0 where
-  is-FALSE : k ≡ 0 → KindIs k a_false
-  is-star : k ≡ 1 → KindIs k a_star
-  is-candidate : k ≡ 2 → KindIs k a_candidate
-  is-conjunction : k ≡ 3 → KindIs k a_conjunction
-  is-disjunction : k ≡ 4 → KindIs k a_disjunction
-  is-exists : k ≡ 5 → KindIs k an_exists
-  is-IF : k ≡ 6 → KindIs k an_if
-  is_none : 6 < k → KindIs k no_form
+  is-FALSE : k ≡ 0 → KindIs k form.False
+  is-star : k ≡ 1 → KindIs k form.Star
+  is-candidate : k ≡ 2 → KindIs k form.Candidate
+  is-conjunction : k ≡ 3 → KindIs k form.Conjunction
+  is-disjunction : k ≡ 4 → KindIs k form.Disjunction
+  is-exists : k ≡ 5 → KindIs k form.Exists
+  is-IF : k ≡ 6 → KindIs k form.If
+  is_none : 6 < k → KindIs k form.Unknown
 
 pub kind_is : (k : ℕ) → KindIs k (form_of k)
 kind_is k = by_form (KindIs k) k is-FALSE is-star is-candidate is-conjunction is-disjunction is-exists is-IF is_none
 
-pub star-form : (k : ℕ) → k ≡ 1 → form_of k ≡ a_star
+pub star-form : (k : ℕ) → k ≡ 1 → form_of k ≡ form.Star
 unfolding form_of
 star-form k e = rw e
 
-pub candidate-form : (k : ℕ) → k ≡ 2 → form_of k ≡ a_candidate
+-- and no other word names a star
+pub star-kind : (k : ℕ) → form_of k ≡ form.Star → k ≡ 1
+star-kind k e = named (subst (KindIs k) e (kind_is k))
+  where
+    named : KindIs k form.Star → k ≡ 1
+    named (is-star p) = p
+
+pub candidate-form : (k : ℕ) → k ≡ 2 → form_of k ≡ form.Candidate
 unfolding form_of
 candidate-form k e = rw e
 
 -- a kind word that is none of the seven is no form's
-pub no-form : (k : ℕ) → (k ≡ 0 → ⊥) → (k ≡ 1 → ⊥) → (k ≡ 2 → ⊥) → (k ≡ 3 → ⊥) → (k ≡ 4 → ⊥) → (k ≡ 5 → ⊥) → (k ≡ 6 → ⊥) → form_of k ≡ no_form
+pub no-form : (k : ℕ) → (k ≡ 0 → ⊥) → (k ≡ 1 → ⊥) → (k ≡ 2 → ⊥) → (k ≡ 3 → ⊥) → (k ≡ 4 → ⊥) → (k ≡ 5 → ⊥) → (k ≡ 6 → ⊥) → form_of k ≡ form.Unknown
 unfolding form_of
 no-form k a b c d e f g = simp (ne_eqb k 0 a, ne_eqb k 1 b, ne_eqb k 2 c, ne_eqb k 3 d, ne_eqb k 4 e, ne_eqb k 5 f, ne_eqb k 6 g)
+
+module _ (rows : List ℕ) (i m : ℕ) where
+  -- the first child is asked for its form
+  pub guarded_by : form_of (kind_of rows (i + 1)) ≡ form.Star → guarded rows i m ≡ meets rows (end_of rows i) (i + 1) m
+  guarded_by e = simp (star-kind (kind_of rows (i + 1)) e)
+
+  pub unguarded : (kind_of rows (i + 1) ≡ 1 → ⊥) → guarded rows i m ≡ false
+  unguarded apart = simp (ne_eqb (kind_of rows (i + 1)) 1 apart)
 
 module _ (rows : List ℕ) where
   -- a conjunction or disjunction
@@ -117,40 +134,40 @@ ends-le #N i end e = either (eqb i 0) e
 module _ (rows reads : List ℕ) (#V : ℕ) where
   -- what the rule of a form says of row i
   abbrev pub Says : ℕ → Form → Type 0
-  Says i a_false = (arg_of rows i ≡ 0) × (end_of rows i ≡ i + 1)
-  Says i a_star = StarSays rows reads i
-  Says i a_candidate = (arg_of rows i < #V) × Guards rows i 1
-  Says i a_conjunction = JoinSays rows i
-  Says i a_disjunction = JoinSays rows i
-  Says i an_exists = (arg_of rows i ≡ 0) × Guards rows i 2
-  Says i an_if = (arg_of rows i ≡ 0) × Guards rows i 3
-  Says i no_form = ⊥
+  Says i form.False = (arg_of rows i ≡ 0) × (end_of rows i ≡ i + 1)
+  Says i form.Star = StarSays rows reads i
+  Says i form.Candidate = (arg_of rows i < #V) × Guards rows i 1
+  Says i form.Conjunction = JoinSays rows i
+  Says i form.Disjunction = JoinSays rows i
+  Says i form.Exists = (arg_of rows i ≡ 0) × Guards rows i 2
+  Says i form.If = (arg_of rows i ≡ 0) × Guards rows i 3
+  Says i form.Unknown = ⊥
 
   form-says : (i : ℕ) (F : Form) → keeps_form rows reads #V i F ≡ true → Says i F
   unfolding false_rule candidate_rule
-  form-says i a_false h =
+  form-says i form.False h =
       let (z, e) = and_parts (eqb (arg_of rows i) 0) (eqb (end_of rows i) (i + 1)) h in
       (eqb-true (arg_of rows i) 0 z, eqb-true (end_of rows i) (i + 1) e)
-  form-says i a_star h = star-says rows reads i h
-  form-says i a_candidate h =
+  form-says i form.Star h = star-says rows reads i h
+  form-says i form.Candidate h =
       let (l, g) = and_parts (ltb (arg_of rows i) #V) (guarded rows i 1) h in
       (ltb-true (arg_of rows i) #V l, guard-says rows i 1 g)
-  form-says i a_conjunction h = join-says rows i h
-  form-says i a_disjunction h = join-says rows i h
-  form-says i an_exists h = bound-says rows i 2 h
-  form-says i an_if h = bound-says rows i 3 h
-  form-says i no_form h = false≢true h
+  form-says i form.Conjunction h = join-says rows i h
+  form-says i form.Disjunction h = join-says rows i h
+  form-says i form.Exists h = bound-says rows i 2 h
+  form-says i form.If h = bound-says rows i 3 h
+  form-says i form.Unknown h = false≢true h
 
   -- its children meet its end
   pub children-meet : (i : ℕ) (F : Form) → Says i F → (m : ℕ) × (meets rows (end_of rows i) (i + 1) m ≡ true)
-  children-meet i a_false s = (0, of-no-child rows (end_of rows i) (i + 1) (sym s.1))
-  children-meet i a_star s = (0, of-no-child rows (end_of rows i) (i + 1) (sym s.ends))
-  children-meet i a_candidate s = (1, s.1.meet)
-  children-meet i a_conjunction s = (suc (arg_of rows i - 1), s.meet)
-  children-meet i a_disjunction s = (suc (arg_of rows i - 1), s.meet)
-  children-meet i an_exists s = (2, s.1.meet)
-  children-meet i an_if s = (3, s.1.meet)
-  children-meet i no_form s = absurd s
+  children-meet i form.False s = (0, of-no-child rows (end_of rows i) (i + 1) (sym s.1))
+  children-meet i form.Star s = (0, of-no-child rows (end_of rows i) (i + 1) (sym s.ends))
+  children-meet i form.Candidate s = (1, s.1.meet)
+  children-meet i form.Conjunction s = (suc (arg_of rows i - 1), s.meet)
+  children-meet i form.Disjunction s = (suc (arg_of rows i - 1), s.meet)
+  children-meet i form.Exists s = (2, s.1.meet)
+  children-meet i form.If s = (3, s.1.meet)
+  children-meet i form.Unknown s = absurd s
 
   -- what a row that keeps its rules shows
   pub record Kept (#N i : ℕ) : Type 0 where

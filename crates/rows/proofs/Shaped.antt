@@ -7,8 +7,10 @@ use mathlib.Core.Bool.{true}
 use mathlib.Core.List.{List}
 use lib.ListN.{length}
 use Rattle.paper.specs.Limits.{most_rows}
-use Rattle.rows.specs.Rows.{kind_of, arg_of, end_of, Form, a_false, a_star, a_candidate, a_conjunction}
-use Rattle.rows.specs.Rows.{a_disjunction, an_exists, an_if, no_form, form_of, meets, keeps_rules}
+use Rattle.rows.specs.Rows.{kind_of, arg_of, end_of}
+use Rattle.rows.specs.declared.form.Form.{Form}
+use Rattle.rows.specs.declared.form.Form.TheVariants as form
+use Rattle.rows.specs.Rows.{form_of, meets, keeps_rules}
 use Rattle.rows.specs.Inside.Walk.{expressions, first_under, Shaped}
 use Rattle.rows.proofs.Meets.{of-no-child}
 use Rattle.rows.proofs.Rules.{KindIs, is-FALSE, is-star, is-candidate, is-conjunction, is-disjunction, is-exists}
@@ -20,14 +22,14 @@ module _ (rows reads : List ℕ) (#V #N : ℕ) (keep : (i : ℕ) → i < #N → 
   join-under i s = subst (λ n. meets rows (end_of rows i) (i + 1) n ≡ true) (sym s.some) s.meet
 
   under-form : (i : ℕ) → i < #N → (F : Form) → Says rows reads #V i F → meets rows (end_of rows i) (first_under F i) (expressions F (arg_of rows i)) ≡ true
-  under-form i h a_false s = of-no-child rows (end_of rows i) (i + 1) (sym s.1)
-  under-form i h a_star s = of-no-child rows (end_of rows i) (i + 1) (sym s.ends)
-  under-form i h a_candidate s = past-guard rows reads #V #N keep i 0 h s.1
-  under-form i h a_conjunction s = join-under i s
-  under-form i h a_disjunction s = join-under i s
-  under-form i h an_exists s = past-guard rows reads #V #N keep i 1 h s.1
-  under-form i h an_if s = past-guard rows reads #V #N keep i 2 h s.1
-  under-form i h no_form s = absurd s
+  under-form i h form.False s = of-no-child rows (end_of rows i) (i + 1) (sym s.1)
+  under-form i h form.Star s = of-no-child rows (end_of rows i) (i + 1) (sym s.ends)
+  under-form i h form.Candidate s = past-guard rows reads #V #N keep i 0 h s.1
+  under-form i h form.Conjunction s = join-under i s
+  under-form i h form.Disjunction s = join-under i s
+  under-form i h form.Exists s = past-guard rows reads #V #N keep i 1 h s.1
+  under-form i h form.If s = past-guard rows reads #V #N keep i 2 h s.1
+  under-form i h form.Unknown s = absurd s
 
   -- a kind word is known, and a join has an expression under it
   of-kind : (i : ℕ) {k : ℕ} {F : Form} → KindIs k F → Says rows reads #V i F → (k < 7) × (2 < k → 0 < expressions F (arg_of rows i))

@@ -11,7 +11,9 @@ use lib.ListN.{length, length-drop}
 use lib.Dec.{eqb}
 use borrow.Author.Tests.{eqb-true, eqb-false}
 use Rattle.paper.proofs.Bools.{pick}
-use Rattle.rows.specs.Rows.{kind_of, arg_of, from_of, Form, form_of, takes, taken_before, keeps_rules}
+use Rattle.rows.specs.Rows.{kind_of, arg_of, from_of, form_of, takes, taken_before, keeps_rules}
+use Rattle.rows.specs.declared.form.Form.{Form}
+use Rattle.rows.specs.declared.form.Form.TheVariants as form
 use Rattle.rows.proofs.Forms.{by_form}
 use Rattle.rows.proofs.Rules.{star-form, StarSays, Says, kept}
 
@@ -20,6 +22,10 @@ pub takes_none : (k arg : ℕ) → (k ≡ 1 → ⊥) → takes (form_of k) arg �
 takes_none k arg h =
     by_form (λ F. takes F arg ≡ 0) k (λ e. refl) (λ e. absurd (h e)) (λ e. refl) (λ e. refl) (λ e. refl) (λ e. refl) (λ e. refl) (λ e. refl)
 
+-- and a star its arg
+pub takes_star : {F : Form} (arg : ℕ) → F ≡ form.Star → takes F arg ≡ arg
+takes_star arg e = rw e
+
 star-or-none : (k : ℕ) → (k ≡ 1) ⊎ ((arg : ℕ) → takes (form_of k) arg ≡ 0)
 star-or-none k = either (eqb k 1) refl
   where
@@ -27,7 +33,7 @@ star-or-none k = either (eqb k 1) refl
     either true e = inl (eqb-true k 1 e)
     either false e = inr (λ arg. takes_none k arg (eqb-false k 1 e))
 
--- and a star no more than its arg
+-- so a row no more than its arg
 pub takes-le : (k arg : ℕ) → takes (form_of k) arg ≤ arg
 unfolding form_of
 takes-le k arg = pick (star-or-none k) (λ e. rw e (le_refl arg)) (λ z. omega (arith, z arg))

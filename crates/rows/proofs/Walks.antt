@@ -13,7 +13,8 @@ use Rattle.paper.specs.declared.Label.{Label}
 use Rattle.paper.specs.Formula.{ℓ, 𝓋, Formula}
 use Rattle.paper.specs.Inside.Structure.Fold.{Fold, fold_of, fold_all}
 use Rattle.rows.specs.Rows.{kind_of, arg_of, end_of, form_of, meets}
-use Rattle.rows.specs.Rows.{Form, a_false, a_star, a_candidate, a_conjunction, a_disjunction, an_exists, an_if, no_form}
+use Rattle.rows.specs.declared.form.Form.{Form}
+use Rattle.rows.specs.declared.form.Form.TheVariants as form
 use Rattle.rows.specs.Formula.{star_at, children_at, node_at, formula_at}
 use Rattle.rows.specs.Inside.Walk.{expressions, first_under, expressions_at, first_at, Shaped, Walkable, skeleton_at, value_at, joined_from}
 use Rattle.rows.proofs.Forms.{by_form}
@@ -102,17 +103,17 @@ module _ {A : Type 0} (r : Fold A) (rows : List ℕ) where
     children-alike f g alike c a zero i = ap (r.join c a) (alike i)
     children-alike f g alike c a (suc more) i = rw (alike i) (children-alike f g alike c (r.join c a (fold_of r (g i))) more (end_of rows i))
 
-    node_alike : (f g : ℕ → Formula) → ((j : ℕ) → fold_of r (f j) ≡ fold_of r (g j)) → (i : ℕ) (form : Form)
-        → fold_of r (node_at rows reads f i form) ≡ fold_of r (node_at rows [] g i form)
+    node_alike : (f g : ℕ → Formula) → ((j : ℕ) → fold_of r (f j) ≡ fold_of r (g j)) → (i : ℕ) (F : Form)
+        → fold_of r (node_at rows reads f i F) ≡ fold_of r (node_at rows [] g i F)
     unfolding node_at star_at
-    node_alike f g alike i a_false = refl
-    node_alike f g alike i a_star = refl
-    node_alike f g alike i a_candidate = refl
-    node_alike f g alike i a_conjunction = children-alike f g alike true (r.unit true) (arg_of rows i - 1) (i + 1)
-    node_alike f g alike i a_disjunction = children-alike f g alike false (r.unit false) (arg_of rows i - 1) (i + 1)
-    node_alike f g alike i an_exists = ap (r.join false (r.unit false)) (alike (i + 2))
-    node_alike f g alike i an_if = let d = alike (i + 2) in let e = alike (end_of rows (i + 2)) in cc
-    node_alike f g alike i no_form = refl
+    node_alike f g alike i form.False = refl
+    node_alike f g alike i form.Star = refl
+    node_alike f g alike i form.Candidate = refl
+    node_alike f g alike i form.Conjunction = children-alike f g alike true (r.unit true) (arg_of rows i - 1) (i + 1)
+    node_alike f g alike i form.Disjunction = children-alike f g alike false (r.unit false) (arg_of rows i - 1) (i + 1)
+    node_alike f g alike i form.Exists = ap (r.join false (r.unit false)) (alike (i + 2))
+    node_alike f g alike i form.If = let d = alike (i + 2) in let e = alike (end_of rows (i + 2)) in cc
+    node_alike f g alike i form.Unknown = refl
 
     pub value_read : (left i : ℕ) → fold_of r (formula_at rows reads left i) ≡ value_at r rows left i
     unfolding formula_at value_at

@@ -3,7 +3,8 @@
 use Rattle.std.specs.Prelude.{ℕ, zero, suc, ◌+◌, ◌-◌, List, map, take, drop}
 use Rattle.paper.specs.Formula.{ℓ, 𝓋, Star, Formula, Formulas, FALSE, test, candidate, conjunction, disjunction, exists, IF, only, ◌⨾◌}
 use Rattle.rows.specs.Rows.{kind_of, arg_of, end_of, from_of, form_of}
-use Rattle.rows.specs.Rows.{Form, a_false, a_star, a_candidate, a_conjunction, a_disjunction, an_exists, an_if, no_form}
+use Rattle.rows.specs.declared.form.Form.{Form}
+use Rattle.rows.specs.declared.form.Form.TheVariants as form
 
 module _ (rows reads : List ℕ) where
   -- the star of row i takes its next arg reads
@@ -17,14 +18,14 @@ module _ (rows reads : List ℕ) where
 
   -- row i, of a form, its children being read by `at`
   unfoldable pub node_at : (ℕ → Formula) → ℕ → Form → Formula
-  node_at at i a_false = FALSE (ℓ i)
-  node_at at i a_star = test (star_at i)
-  node_at at i a_candidate = candidate (ℓ i) (𝓋 (arg_of rows i)) (star_at (i + 1))
-  node_at at i a_conjunction = conjunction (ℓ i) (children_at at (arg_of rows i - 1) (i + 1))
-  node_at at i a_disjunction = disjunction (ℓ i) (children_at at (arg_of rows i - 1) (i + 1))
-  node_at at i an_exists = exists (ℓ i) (star_at (i + 1)) (at (i + 2))
-  node_at at i an_if = IF (ℓ i) (star_at (i + 1)) (at (i + 2)) (at (end_of rows (i + 2)))
-  node_at at i no_form = FALSE (ℓ i)
+  node_at at i form.False = FALSE (ℓ i)
+  node_at at i form.Star = test (star_at i)
+  node_at at i form.Candidate = candidate (ℓ i) (𝓋 (arg_of rows i)) (star_at (i + 1))
+  node_at at i form.Conjunction = conjunction (ℓ i) (children_at at (arg_of rows i - 1) (i + 1))
+  node_at at i form.Disjunction = disjunction (ℓ i) (children_at at (arg_of rows i - 1) (i + 1))
+  node_at at i form.Exists = exists (ℓ i) (star_at (i + 1)) (at (i + 2))
+  node_at at i form.If = IF (ℓ i) (star_at (i + 1)) (at (i + 2)) (at (end_of rows (i + 2)))
+  node_at at i form.Unknown = FALSE (ℓ i)
 
   -- the formula at row i, so many levels deep at most
   unfoldable pub formula_at : ℕ → ℕ → Formula

@@ -3,6 +3,8 @@
 use Rattle.std.specs.Prelude.{ℕ, zero, suc, ◌+◌, ◌*◌, Bool, false, cond, not, ◌&&◌, List, get_or, drop, ltb, leb, eqb}
 use Rattle.paper.specs.Limits.{most_depth}
 use Rattle.entries.specs.Entries.{ascend}
+use Rattle.rows.specs.declared.form.Form.{Form}
+use Rattle.rows.specs.declared.form.Form.TheVariants as form
 
 -- the words of row i
 abbrev pub kind_of : List ℕ → ℕ → ℕ
@@ -17,26 +19,16 @@ end_of rows i = get_or rows (4 * i + 2) 0
 abbrev pub from_of : List ℕ → ℕ → ℕ
 from_of rows i = get_or rows (4 * i + 3) 0
 
--- the forms of document 001, by the kind words
-pub data Form : Type 0 where
-  a_false : Form
-  a_star : Form
-  a_candidate : Form
-  a_conjunction : Form
-  a_disjunction : Form
-  an_exists : Form
-  an_if : Form
-  no_form : Form
-
+-- the form of document 001 that a kind word names; the forms themselves stand in src/form.rt
 unfoldable pub form_of : ℕ → Form
 form_of k =
-    cond (eqb k 0) a_false
-    (cond (eqb k 1) a_star
-    (cond (eqb k 2) a_candidate
-    (cond (eqb k 3) a_conjunction
-    (cond (eqb k 4) a_disjunction
-    (cond (eqb k 5) an_exists
-    (cond (eqb k 6) an_if no_form))))))
+    cond (eqb k 0) form.False
+    (cond (eqb k 1) form.Star
+    (cond (eqb k 2) form.Candidate
+    (cond (eqb k 3) form.Conjunction
+    (cond (eqb k 4) form.Disjunction
+    (cond (eqb k 5) form.Exists
+    (cond (eqb k 6) form.If form.Unknown))))))
 
 -- stepping by end words from the row `at`, m children meet `stop`: each end rises, and none passes it
 unfoldable pub meets : List ℕ → ℕ → ℕ → ℕ → Bool
@@ -45,14 +37,14 @@ meets rows stop at (suc m) = ltb at stop && (ltb at (end_of rows at) && (leb (en
 
 -- the reads that a row of a form takes: a star as many as its arg says, any other none
 abbrev pub takes : Form → ℕ → ℕ
-takes a_false arg = 0
-takes a_star arg = arg
-takes a_candidate arg = 0
-takes a_conjunction arg = 0
-takes a_disjunction arg = 0
-takes an_exists arg = 0
-takes an_if arg = 0
-takes no_form arg = 0
+takes form.False arg = 0
+takes form.Star arg = arg
+takes form.Candidate arg = 0
+takes form.Conjunction arg = 0
+takes form.Disjunction arg = 0
+takes form.Exists arg = 0
+takes form.If arg = 0
+takes form.Unknown arg = 0
 
 -- the number of reads that all stars before row i take
 unfoldable pub taken_before : List ℕ → ℕ → ℕ
@@ -85,14 +77,14 @@ unfoldable pub bound_rule : List ℕ → ℕ → ℕ → Bool
 bound_rule rows i m = eqb (arg_of rows i) 0 && guarded rows i m
 
 abbrev pub keeps_form : List ℕ → List ℕ → ℕ → ℕ → Form → Bool
-keeps_form rows reads #V i a_false = false_rule rows i
-keeps_form rows reads #V i a_star = star_rule rows reads i
-keeps_form rows reads #V i a_candidate = candidate_rule rows #V i
-keeps_form rows reads #V i a_conjunction = join_rule rows i
-keeps_form rows reads #V i a_disjunction = join_rule rows i
-keeps_form rows reads #V i an_exists = bound_rule rows i 2
-keeps_form rows reads #V i an_if = bound_rule rows i 3
-keeps_form rows reads #V i no_form = false
+keeps_form rows reads #V i form.False = false_rule rows i
+keeps_form rows reads #V i form.Star = star_rule rows reads i
+keeps_form rows reads #V i form.Candidate = candidate_rule rows #V i
+keeps_form rows reads #V i form.Conjunction = join_rule rows i
+keeps_form rows reads #V i form.Disjunction = join_rule rows i
+keeps_form rows reads #V i form.Exists = bound_rule rows i 2
+keeps_form rows reads #V i form.If = bound_rule rows i 3
+keeps_form rows reads #V i form.Unknown = false
 
 -- of #N rows the end of row 0 is #N, and no other passes it
 unfoldable pub ends_within : ℕ → ℕ → ℕ → Bool

@@ -19,6 +19,7 @@ pub fn first_deep(rows: &[u16], n: u16, at: Label, left: u16) -> Label
     }
     let end = end_of(rows, at);
     let mut k = Label(at.0 + 1);
+    // the next child is where this one ends, and no `for` steps so
     while k.0 < end.0 {
         let stop = end_of(rows, k);
         let deep = first_deep(rows, n, k, left - 1);

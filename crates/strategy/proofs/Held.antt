@@ -12,7 +12,9 @@ use Rattle.paper.specs.Formula.{labels, Formula}
 use Rattle.paper.proofs.Bools.{pick}
 use Rattle.paper.proofs.Labels.{mem-has}
 use Rattle.table.specs.declared.Layout.{Layout}
-use Rattle.rows.specs.Rows.{kind_of, arg_of, from_of, Form, a_false, a_star, a_candidate, a_conjunction, a_disjunction, an_exists, an_if, no_form, form_of}
+use Rattle.rows.specs.Rows.{kind_of, arg_of, from_of, form_of}
+use Rattle.rows.specs.declared.form.Form.{Form}
+use Rattle.rows.specs.declared.form.Form.TheVariants as form
 use Rattle.table.specs.Table.{checked, rows_in, reads_in, chosen_in}
 use Rattle.rows.specs.Formula.{formula_at}
 use Rattle.rows.specs.Inside.Walk.{Walkable}
@@ -154,14 +156,14 @@ module _ {rows reads chosen : List ℕ} {#V #N : ℕ} (p : Parts rows reads chos
   guard-star a h l = go (form_of (kind_of rows a)) (kind_is (kind_of rows a)) (kept rows reads #V #N a (p.keeps a h)).says
     where
       go : (F : Form) → KindIs (kind_of rows a) F → Says rows reads #V a F → kind_of rows (a + 1) ≡ 1
-      go a_false (is-FALSE e) s = absurd (omega arith)
-      go a_star (is-star e) s = absurd (omega arith)
-      go a_candidate (is-candidate e) s = absurd (omega arith)
-      go a_conjunction (is-conjunction e) s = absurd (omega arith)
-      go a_disjunction (is-disjunction e) s = absurd (omega arith)
-      go an_exists k s = s.1.star
-      go an_if k s = s.1.star
-      go no_form k s = absurd s
+      go form.False (is-FALSE e) s = absurd (omega arith)
+      go form.Star (is-star e) s = absurd (omega arith)
+      go form.Candidate (is-candidate e) s = absurd (omega arith)
+      go form.Conjunction (is-conjunction e) s = absurd (omega arith)
+      go form.Disjunction (is-disjunction e) s = absurd (omega arith)
+      go form.Exists k s = s.1.star
+      go form.If k s = s.1.star
+      go form.Unknown k s = absurd s
 
   pub chosen-rows : ((k : ℕ) → k < length chosen → kind_of rows (get_or chosen k 0) ≡ 2) → Chosen rows chosen #N
   chosen-rows kinds =

@@ -8,8 +8,10 @@ use mathlib.Core.List.{List, [], ◌∷◌, map}
 use lib.ListN.{length, take, drop, length-append, length-map}
 use lib.Seq.{length-take-le}
 use Rattle.paper.specs.Formula.{𝓋, Formula, Formulas, test, labels, labels_of, stars, stars_of}
-use Rattle.rows.specs.Rows.{kind_of, arg_of, end_of, from_of, Form, a_false, a_star, a_candidate, a_conjunction}
-use Rattle.rows.specs.Rows.{a_disjunction, an_exists, an_if, no_form, form_of, meets, takes, taken_before, keeps_rules}
+use Rattle.rows.specs.Rows.{kind_of, arg_of, end_of, from_of}
+use Rattle.rows.specs.declared.form.Form.{Form}
+use Rattle.rows.specs.declared.form.Form.TheVariants as form
+use Rattle.rows.specs.Rows.{form_of, meets, takes, taken_before, keeps_rules}
 use Rattle.rows.specs.Formula.{star_at, children_at, node_at, formula_at}
 use Rattle.written.specs.Written.{reads_from, taken_reads, size, width}
 use Rattle.written.proofs.Writes.{RowIs, StarIs, Writes, WritesAll}
@@ -63,7 +65,7 @@ module _ (rows reads : List ℕ) where
   same_taken i e z = let n = taken_next rows i e refl in omega arith
 
   -- a star's row
-  star-writes : (i : ℕ) → kind_of rows i ≡ 1 → form_of (kind_of rows i) ≡ a_star → from_of rows i ≡ taken_before rows i → StarSays rows reads i
+  star-writes : (i : ℕ) → kind_of rows i ≡ 1 → form_of (kind_of rows i) ≡ form.Star → from_of rows i ≡ taken_before rows i → StarSays rows reads i
       → RowsWrite (test (star_at rows reads i)) i
   unfolding star_at
   star-writes i k F f s =
@@ -149,14 +151,14 @@ module _ (rows reads : List ℕ) (#V #N : ℕ) (keeps : (i : ℕ) → i < #N →
     node-writes : (F : Form) → form_of (kind_of rows i) ≡ F → KindIs (kind_of rows i) F → Says rows reads #V i F
         → RowsWrite rows reads (node_at rows reads at i F) i
     unfolding node_at children_at
-    node-writes a_false e (is-FALSE k) s =
+    node-writes form.False e (is-FALSE k) s =
         record {
           writes = (refl, record { kind_is = k; arg_is = s.0; end_is = s.1; from_is = (kept_at i h).from_is });
           ends = s.1;
           taken = ap (taken_before rows) s.1 ∙ taken_next rows i e refl;
         }
-    node-writes a_star e (is-star k) s = star-writes rows reads i k e (kept_at i h).from_is s
-    node-writes a_candidate e (is-candidate k) s =
+    node-writes form.Star e (is-star k) s = star-writes rows reads i k e (kept_at i h).from_is s
+    node-writes form.Candidate e (is-candidate k) s =
         let g = guard-writes i 0 h (same_taken rows reads i e refl) s.1 in
         let q = sym (no-child rows (end_of rows i) (i + 2) g.others) in
         record {
@@ -164,20 +166,20 @@ module _ (rows reads : List ℕ) (#V #N : ℕ) (keeps : (i : ℕ) → i < #N →
           ends = q;
           taken = ap (taken_before rows) q ∙ g.taken ∙ (let n = taken-star (star_at rows reads (i + 1)) [] in omega arith);
         }
-    node-writes a_conjunction e (is-conjunction k) s =
+    node-writes form.Conjunction e (is-conjunction k) s =
         let w = join-writes (same_taken rows reads i e refl) s in
         record { writes = (refl, w.row 3 k, w.children); ends = w.ends; taken = w.taken }
-    node-writes a_disjunction e (is-disjunction k) s =
+    node-writes form.Disjunction e (is-disjunction k) s =
         let w = join-writes (same_taken rows reads i e refl) s in
         record { writes = (refl, w.row 4 k, w.children); ends = w.ends; taken = w.taken }
-    node-writes an_exists e (is-exists k) s =
+    node-writes form.Exists e (is-exists k) s =
         let w = bound-writes 0 (same_taken rows reads i e refl) s.1 in
         record {
           writes = (refl, record { kind_is = k; arg_is = s.0; end_is = w.ends; from_is = (kept_at i h).from_is }, w.star, w.children);
           ends = let d = w.ends in omega arith;
           taken = w.taken;
         }
-    node-writes an_if e (is-IF k) s =
+    node-writes form.If e (is-IF k) s =
         let w = bound-writes 1 (same_taken rows reads i e refl) s.1 in
         let n = length-append (labels (at (i + 2))) (labels (at (end_of rows (i + 2)))) in
         let d = w.ends in
@@ -186,7 +188,7 @@ module _ (rows reads : List ℕ) (#V #N : ℕ) (keeps : (i : ℕ) → i < #N →
           ends = omega arith;
           taken = w.taken;
         }
-    node-writes no_form e (is_none k) s = absurd s
+    node-writes form.Unknown e (is_none k) s = absurd s
 
   -- A row that has its subtree's size for levels left writes the formula that is read from it.
   pub rules-write : (d i : ℕ) → i < #N → end_of rows i - i ≤ d → RowsWrite rows reads (formula_at rows reads d i) i

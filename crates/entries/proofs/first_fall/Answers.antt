@@ -1,14 +1,7 @@
--- The lowest word that is not above the one before is found: the loop has passed no such word.
-use native.Mathlib.Omega.{arith}
-use mathlib.Core.Path.{sym}
-use borrow.Author.Tests.{lt-ltb, le-leb}
-use Rattle.entries.proofs.First.{first_found, first-none}
+-- The test is that of the definition.
+use borrow.Author.Rules.{rules}
+use Rattle.entries.proofs.First.{first_by}
 use Rattle.entries.proofs.first_fall.Goals as goal
 
-pub returns-then-words-k : goal.returns-then-words-k
-returns-then-words-k c =
-    let l = c.loop-k in
-    sym (first_found _ _ _ l.invariant.1 (omega arith) (simp (lt-ltb 0 l.k (omega arith), le-leb _ _ c.if-words-k.true)))
-
 pub returns : goal.returns
-returns c = sym (first-none _ _ (λ j h. c.loop-k.invariant.1 j (omega arith)))
+returns c = first_by _ c.first_where.ensures (λ k b h a. search rules)

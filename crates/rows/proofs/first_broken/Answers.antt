@@ -12,24 +12,20 @@ use Rattle.rows.proofs.first_broken.Goals as goal
 
 pub loop-i-init : goal.loop-i-init
 unfolding taken_before
-loop-i-init c = (omega arith, refl, omega arith, λ j h. absurd (omega arith))
+loop-i-init c = (refl, omega arith, λ j h. absurd (omega arith))
 
 pub returns-then-not-keeps_rules : goal.returns-then-not-keeps_rules
 returns-then-not-keeps_rules c =
-    sym (first_found _ _ _ c.loop-i.invariant.3 (omega arith) (ap not (sym c.keeps_rules.ensures ∙ c.if-not-keeps_rules.true)))
+    sym (first_found _ _ _ c.loop-i.invariant.2 (omega arith) (ap not (sym c.keeps_rules.ensures ∙ c.if-not-keeps_rules.true)))
 
 pub loop-i-preserved : goal.loop-i-preserved
 loop-i-preserved c =
     -- the reads taken with those of a row that keeps its rules
     let inv = c.loop-i.invariant in
-    let more : c.loop-i.taken + c.taken_by-taken.result ≡ taken_before c.args.rows.now (c.loop-i.i + 1) = taken_more _ _ _ _ inv.1 c.taken_by-taken.ensures in
+    let more : c.loop-i.taken + c.taken_by-taken.result ≡ taken_before c.args.rows.now (c.loop-i.i + 1) = taken_more _ _ _ _ inv.0 c.taken_by-taken.ensures in
     let keeps = sym c.keeps_rules.ensures ∙ c.if-not-keeps_rules.false in
-    let there : c.loop-i.taken + c.taken_by-taken.result ≤ length c.args.reads.now = rw more (takes-there _ _ _ _ _ keeps (rw inv.1 at inv.2)) in (
-      omega arith,
-      more,
-      there,
-      below_more _ _ inv.3 (ap not keeps),
-    )
+    let there : c.loop-i.taken + c.taken_by-taken.result ≤ length c.args.reads.now = rw more (takes-there _ _ _ _ _ keeps (rw inv.0 at inv.1)) in
+    (more, there, below_more _ _ inv.2 (ap not keeps))
 
 pub returns : goal.returns
-returns c = sym (first-none _ _ (λ j h. c.loop-i.invariant.3 j (omega arith)))
+returns c = sym (first-none _ _ (λ j h. c.loop-i.invariant.2 j (omega arith)))

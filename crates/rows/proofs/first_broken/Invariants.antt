@@ -1,5 +1,5 @@
 -- The lowest row that breaks its rules is found: all rows passed keep theirs, so that the reads which they take are there.
-use Prim.Native.Nat.{ℕ, ◌-◌, ◌<◌, ◌≤◌}
+use Prim.Native.Nat.{ℕ, ◌<◌, ◌≤◌}
 use mathlib.Core.Path.{◌≡◌}
 use mathlib.Core.Bool.{false}
 use lib.ListN.{length}
@@ -8,7 +8,4 @@ use Rattle.rows.proofs.first_broken.Given as goal
 
 abbrev pub invariant-loop-i : goal.invariant-loop-i
 invariant-loop-i l =
-    (l.i ≤ l.n) × (l.taken ≡ taken_before l.rows l.i) × (l.taken ≤ length l.reads) × ((j : ℕ) → j < l.i → breaks_rules l.rows l.reads l.variables l.n j ≡ false)
-
-abbrev pub decreases-loop-i : goal.decreases-loop-i
-decreases-loop-i l = l.n - l.i
+    (l.taken ≡ taken_before l.rows l.i) × (l.taken ≤ length l.reads) × ((j : ℕ) → j < l.i → breaks_rules l.rows l.reads l.variables l.n j ≡ false)

@@ -9,10 +9,10 @@ use Rattle.rows.proofs.reads_taken.Goals as goal
 
 pub loop-i-init : goal.loop-i-init
 unfolding taken_before
-loop-i-init c = (omega arith, refl, omega arith)
+loop-i-init c = (refl, omega arith)
 
 pub loop-i-preserved : goal.loop-i-preserved
 loop-i-preserved c =
     -- a row takes fewer reads than a word can say
     let few : c.taken_by-taken.result < 65536 = rw c.taken_by-taken.ensures (lt_of_le_of_lt (takes-le _ _) (c.type_inv.rows (4 * c.loop-i.i + 1)).fits) in
-    (omega arith, taken_more _ _ _ _ c.loop-i.invariant.1 c.taken_by-taken.ensures, omega arith)
+    (taken_more _ _ _ _ c.loop-i.invariant.0 c.taken_by-taken.ensures, omega arith)

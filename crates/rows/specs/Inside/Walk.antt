@@ -5,30 +5,31 @@ use Rattle.paper.specs.Limits.{most_rows}
 use Rattle.paper.specs.Formula.{Formula}
 use Rattle.paper.specs.Inside.Structure.Fold.{Fold, fold_of}
 use Rattle.rows.specs.Rows.{kind_of, arg_of, end_of, form_of, meets}
-use Rattle.rows.specs.Rows.{Form, a_false, a_star, a_candidate, a_conjunction, a_disjunction, an_exists, an_if, no_form}
+use Rattle.rows.specs.declared.form.Form.{Form}
+use Rattle.rows.specs.declared.form.Form.TheVariants as form
 use Rattle.rows.specs.Formula.{formula_at}
 
 -- how many expressions stand right under a row of a form, with this arg
 abbrev pub expressions : Form → ℕ → ℕ
-expressions a_false arg = 0
-expressions a_star arg = 0
-expressions a_candidate arg = 0
-expressions a_conjunction arg = arg
-expressions a_disjunction arg = arg
-expressions an_exists arg = 1
-expressions an_if arg = 2
-expressions no_form arg = 0
+expressions form.False arg = 0
+expressions form.Star arg = 0
+expressions form.Candidate arg = 0
+expressions form.Conjunction arg = arg
+expressions form.Disjunction arg = arg
+expressions form.Exists arg = 1
+expressions form.If arg = 2
+expressions form.Unknown arg = 0
 
 -- the first of them, under row i: the next row, or the one past the guard star
 abbrev pub first_under : Form → ℕ → ℕ
-first_under a_false i = i + 1
-first_under a_star i = i + 1
-first_under a_candidate i = i + 2
-first_under a_conjunction i = i + 1
-first_under a_disjunction i = i + 1
-first_under an_exists i = i + 2
-first_under an_if i = i + 2
-first_under no_form i = i + 1
+first_under form.False i = i + 1
+first_under form.Star i = i + 1
+first_under form.Candidate i = i + 2
+first_under form.Conjunction i = i + 1
+first_under form.Disjunction i = i + 1
+first_under form.Exists i = i + 2
+first_under form.If i = i + 2
+first_under form.Unknown i = i + 1
 
 abbrev pub expressions_at : List ℕ → ℕ → ℕ
 expressions_at rows i = expressions (form_of (kind_of rows i)) (arg_of rows i)
