@@ -15,21 +15,33 @@ import sys
 # A function without a statement of a kind, and why: (crate, file, statement): reason
 EXCEPTIONS = {}
 
-# What is said, and what a refusal is, by the type of the result. A public function whose result is a u64 answers C, packed.
+# What is said, and what a refusal is, by the error of a `Result` or the type of the result. A public function whose result is a u64
+# answers C, packed.
 SAID = "Rattle.paper.specs.Outcome"
 REFUSAL = {
-    "Filled": "Rattle.filling.specs.Filling.IsRefusal",
-    "Judged": "Rattle.strategy.specs.Verdict.IsRefusal",
+    "Refusal": "Rattle.paper.specs.Refusals.IsRefusal",
     "u64": "Rattle.nocturenc.specs.Packed.IsPackedRefusal",
 }
 
-# The form of a generic function's statement, over its type parameter and all that the parameter's bound brings. One that is handed
+# The forms of a generic function's statements, over its type parameter and all that the parameter's bound brings. One that is handed
 # a test has one outcome where that test has one answer at each number.
+COPIED = (
+    "(T : denote.RattleType.RattleType) (L : denote.Param.Laws.Laws T) (C : denote.Param.Laws.IsCopy T)"
+    " (K : Rattle.std.specs.declared.clone.Clone.Ghosts T.Denot) (D : mir.Syntax.Dict) → "
+)
 GENERIC = {
-    "entries::first_where": (
+    ("OneOutcome", "entries::first_where"): (
         "(T : denote.RattleType.RattleType) (L : denote.Param.Laws.Laws T) (F : {contract}.F-Fn.Ghosts T) (d e f g : mir.Syntax.Dict)"
         " → {said}.OneOutcome ({path}.Kinds.ps T L) ({path}.Kinds.r T L) (λ κs a. {path}.Reads.Pre T L F d e f g κs a"
         " × Rattle.entries.specs.Inside.Asked.OneAnswer (({contract}.F-Fn.words T F).post a.1.0) a.0) ({path}.Reads.Post T L F d e f g)"
+    ),
+    ("OneOutcome", "filling::fill"): (
+        f"{COPIED}{{said}}.OneOutcome ({{path}}.Kinds.ps T L C) ({{path}}.Kinds.r T L C)"
+        " ({path}.Reads.Pre T L C K D) ({path}.Reads.Post T L C K D)"
+    ),
+    ("RefusalLeaves", "filling::fill"): (
+        f"{COPIED}{{said}}.RefusalLeaves ({{path}}.Kinds.ps T L C) ({{path}}.Kinds.r T L C) (λ κs. {REFUSAL['Refusal']})"
+        " (λ κs a. (tt, (a.1.0.now, tt))) ({path}.Reads.Pre T L C K D) ({path}.Reads.Post T L C K D)"
     ),
 }
 
@@ -90,18 +102,11 @@ def public_functions(crate):
         methods = [(name, start, closing(text, start)) for name, start in methods]
         for item in re.finditer(r'\bpub\b\s*(?:\([^)]*\)\s*)?(extern\s*""\s*)?fn\s+(\w+)\s*(?:<(?:->|[^<>])*>)?\s*\(', text):
             end = closing(text, item.end() - 1)
-            result = re.match(r"\s*->\s*(\S+)", text[end + 1 :])
+            result = re.match(r"\s*->\s*(?:Result<\w+,\s*)?(\w+)", text[end + 1 :])
             owner = [name for name, start, stop in methods if start < item.start() < stop]
             parameters = parts(text[item.end() : end])
             found.append(Function(crate, modules + owner, item.group(2), bool(item.group(1)), parameters, result and result.group(1)))
     return found
-
-
-def refusing_enums():
-    """The enums that have a case Refused."""
-    sources = [without("//", path) for path in glob.glob("crates/*/src/**/*.rt", recursive=True)]
-    enums = [enum for text in sources for enum in re.findall(r"\benum\s+(\w+)\s*\{([^}]*)\}", text)]
-    return {name for name, body in enums if re.search(r"\bRefused\b", body)}
 
 
 def brought(path, text):
@@ -136,17 +141,24 @@ def statements(crate, file):
     return found
 
 
+def of_generic(kind, f):
+    """The form of a generic function's statement of a kind."""
+    return GENERIC[kind, f.shown].format(said=SAID, path=f.path, contract=f.path.replace(".proofs", ".specs.contracts", 1))
+
+
 def one_outcome(f):
     """Over the prover's reading of the contract or, for a function that is walked by hand, over the contract's clauses; of a generic
     function in the form above."""
-    if f.shown in GENERIC:
-        return [GENERIC[f.shown].format(said=SAID, path=f.path, contract=f.path.replace(".proofs", ".specs.contracts", 1))]
+    if ("OneOutcome", f.shown) in GENERIC:
+        return [of_generic("OneOutcome", f)]
     read = f"{SAID}.OneOutcome {f.path}.Kinds.ps {f.path}.Kinds.r {f.path}.Reads.Pre {f.path}.Reads.Post"
     return [read, f"{SAID}.OneOutcomeWalked {f.path}.ended (λ M. {f.path}.clauses)"]
 
 
 def refusal_leaves(f):
     """What is left of each value that was lent to be changed is what is there now."""
+    if ("RefusalLeaves", f.shown) in GENERIC:
+        return [of_generic("RefusalLeaves", f)]
     lent = "tt"
     for i in reversed(range(len(f.lent))):
         lent = f"(a{'.1' * i}.0.now, {lent})" if f.lent[i] else f"(tt, {lent})"
@@ -209,11 +221,10 @@ def but_for(file):
 def main():
     crates = sorted(os.path.basename(c) for c in glob.glob("crates/*"))
     libraries = [c for c in crates if os.path.exists(f"crates/{c}/src/lib.rt")]
-    enums = refusing_enums()
     number = refusing = owners = 0
     for crate in libraries:
         functions = public_functions(crate)
-        can_refuse = [f for f in functions if any(f.lent) and (f.exported or f.result in REFUSAL or f.result in enums)]
+        can_refuse = [f for f in functions if any(f.lent) and (f.exported or f.result in REFUSAL)]
         compare(crate, "OneOutcome", functions, one_outcome)
         compare(crate, "RefusalLeaves", can_refuse, refusal_leaves)
         number, refusing, owners = number + len(functions), refusing + len(can_refuse), owners + bool(functions)

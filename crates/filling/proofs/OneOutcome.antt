@@ -8,6 +8,6 @@ use Rattle.paper.specs.Outcome.{OneOutcome}
 use Rattle.paper.proofs.Outcome.{by-equation}
 use Rattle.filling.proofs as filling
 
-module _ (T : RattleType) (L : Laws T) (C : IsCopy T) (K : Ghosts T.Denot) (D : Dict) where
-  pub fill : OneOutcome (filling.fill.Kinds.ps T L C) (filling.fill.Kinds.r T L C) (filling.fill.Reads.Pre T L C K D) (filling.fill.Reads.Post T L C K D)
-  fill κs a pre x y v w p q = (by-equation p.answered q.answered, λ i. (tt, (by-equation p.left_so q.left_so i, tt)))
+pub fill : (T : RattleType) (L : Laws T) (C : IsCopy T) (K : Ghosts T.Denot) (D : Dict)
+    → OneOutcome (filling.fill.Kinds.ps T L C) (filling.fill.Kinds.r T L C) (filling.fill.Reads.Pre T L C K D) (filling.fill.Reads.Post T L C K D)
+fill T L C K D κs a pre x y v w p q = (by-equation p.answered q.answered, λ i. (tt, (by-equation p.left_so q.left_so i, tt)))

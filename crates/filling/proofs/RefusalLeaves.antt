@@ -18,8 +18,7 @@ pub as_it_was : {T : Type 0} (o : Outcome T) {lent left : List T} {r : Result Le
 as_it_was (refuses r) f h = f.left_so
 as_it_was (fills ws) f h = absurd (subst IsRefusal f.answered h)
 
-module _ (T : RattleType) (L : Laws T) (C : IsCopy T) (K : Ghosts T.Denot) (D : Dict) where
-  pub fill :
-      RefusalLeaves (filling.fill.Kinds.ps T L C) (filling.fill.Kinds.r T L C) (λ κs. IsRefusal) (λ κs a. (tt, (a.1.0.now, tt)))
-      (filling.fill.Reads.Pre T L C K D) (filling.fill.Reads.Post T L C K D)
-  fill κs a pre x v p h = λ i. (tt, (as_it_was _ p h i, tt))
+pub fill : (T : RattleType) (L : Laws T) (C : IsCopy T) (K : Ghosts T.Denot) (D : Dict)
+    → RefusalLeaves (filling.fill.Kinds.ps T L C) (filling.fill.Kinds.r T L C) (λ κs. IsRefusal) (λ κs a. (tt, (a.1.0.now, tt)))
+    (filling.fill.Reads.Pre T L C K D) (filling.fill.Reads.Post T L C K D)
+fill T L C K D κs a pre x v p h = λ i. (tt, (as_it_was _ p h i, tt))
