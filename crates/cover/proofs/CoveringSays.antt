@@ -6,12 +6,13 @@ use native.Mathlib.Nat.{div-add-mod', mod-lt, le_refl}
 use native.Mathlib.Numerals.{add-one}
 use native.Mathlib.Omega.{arith}
 use mathlib.Core.Path.{◌≡◌, refl, sym, ap, ◌∙◌}
-use mathlib.Core.Bool.{Bool, true, false, not, cond, ◌&&◌}
+use mathlib.Core.Bool.{Bool, true, false, not, cond, ◌&&◌, and-true, or-false}
 use mathlib.Core.Logic.{◌↔◌}
 use mathlib.Core.List.{List, [], ◌∷◌, ◌++◌, map, Memᴰ}
 use lib.Dec.{eqb}
 use borrow.Author.Count.{below_more}
 use borrow.Author.Tests.{eq-eqb, ne_eqb, eqb-true, eqb-false, lt-ltb, le-ltb, not-true}
+use Rattle.std.specs.Prelude.{Option, None, Some, Ok, Err}
 use Rattle.paper.specs.Limits.{most_rows}
 use Rattle.paper.specs.declared.Label.{Label}
 use Rattle.paper.specs.declared.Variable.{Variable}
@@ -31,7 +32,7 @@ use Rattle.rows.specs.Formula.{formula_at}
 use Rattle.entries.proofs.First.{first_found, first-none, first_below, first-at, first-all, first-same}
 use Rattle.rows.proofs.Walks.{value_read}
 use Rattle.cover.specs.declared.Masks.{Masks}
-use Rattle.cover.specs.declared.Covering.TheVariants.{Missed, Doubled, Covered}
+use Rattle.cover.specs.declared.Uncovered.TheVariants.{Missed, Doubled}
 use Rattle.marks.specs.Marks.{is_marked}
 use Rattle.marks.specs.Inside.Chosen.{Marked}
 use Rattle.cover.specs.Inside.Masks.{leaf_masks, unit_masks, join_masks, mask_of, masks_fold, masks_at}
@@ -49,10 +50,12 @@ module _ (b : ℕ) (h : b < 64) where
   at_unit true = covers (zero_bit b) (zero_bit b) (zero_bit b)
   at_unit false = covers (all-bit b h) (zero_bit b) (zero_bit b)
 
-  at_join : (c : Bool) (x y : Masks) → cover_at b (join_masks c x y) ≡ join_cover c (cover_at b x) (cover_at b y)
+  at_join : (c : Bool) (v w : Option Masks) → cover_at b (join_masks c v w) ≡ join_cover c (cover_at b v) (cover_at b w)
   unfolding join_masks
-  at_join true x y = both_bits b x.live y.live x y
-  at_join false x y = covers (and-bit x.always y.always b) (or-bit x.ever y.ever b) (or-bit x.twice y.twice b)
+  at_join true v w = both_bits b v w
+  at_join false None w = rw (all-bit b h, zero_bit b)
+  at_join false (Some x) None = covers (rw (all-bit b h, and-true)) (rw (zero_bit b, or-false)) (rw (zero_bit b, or-false))
+  at_join false (Some x) (Some y) = covers (and-bit x.always y.always b) (or-bit x.ever y.ever b) (or-bit x.twice y.twice b)
 
   -- bit b of a candidate's mask: it is marked, and its variable is 64 * block + b
   mask-bit : (marks : List ℕ) (block l v : ℕ) → bit_at (mask_of marks block l v) b ≡ (is_marked marks l && eqb (64 * block + b) v)
@@ -121,17 +124,17 @@ lowest-of-two {n = n} (none d) (some {k = k} e h) = rw (d, e, le-ltb n n (le_ref
 lowest-of-two {n = n} (some {k = k} d g) s = rw (d, lt-ltb k n g)
 
 -- what a covering tells of the two lists, and what is judged by them
-by-missed : (xs ys : List Variable) (v : Variable) → (covering_by xs ys ≡ Missed v) ↔ ((others : List Variable) × (xs ≡ v ∷ others))
+by-missed : (xs ys : List Variable) (v : Variable) → (covering_by xs ys ≡ Err (Missed v)) ↔ ((others : List Variable) × (xs ≡ v ∷ others))
 by-missed [] [] v = (λ e. ([], cc), λ (others, e). cc)
 by-missed [] (y ∷ ys) v = (λ e. ([], cc), λ (others, e). cc)
 by-missed (x ∷ xs) ys v = (λ e. (xs, cc), λ (others, e). cc)
 
-by-doubled : (xs ys : List Variable) (v : Variable) → (covering_by xs ys ≡ Doubled v) ↔ ((xs ≡ []) × (others : List Variable) × (ys ≡ v ∷ others))
+by-doubled : (xs ys : List Variable) (v : Variable) → (covering_by xs ys ≡ Err (Doubled v)) ↔ ((xs ≡ []) × (others : List Variable) × (ys ≡ v ∷ others))
 by-doubled [] [] v = (λ e. (refl, [], cc), λ (d, others, e). cc)
 by-doubled [] (y ∷ ys) v = (λ e. (refl, ys, cc), λ (d, others, e). cc)
 by-doubled (x ∷ xs) ys v = (λ e. (cc, [], cc), λ (d, others, e). cc)
 
-by-covered : (xs ys : List Variable) → (covering_by xs ys ≡ Covered) ↔ ((xs ≡ []) × (ys ≡ []))
+by-covered : (xs ys : List Variable) → (covering_by xs ys ≡ Ok tt) ↔ ((xs ≡ []) × (ys ≡ []))
 by-covered [] [] = (λ e. (refl, refl), λ e. refl)
 by-covered [] (y ∷ ys) = (λ e. (refl, cc), λ (d, e). cc)
 by-covered (x ∷ xs) ys = (λ e. (cc, cc), λ (d, e). cc)
@@ -186,14 +189,14 @@ module _ (rows reads : List ℕ) {f : Formula} (written : f ≡ formula_at rows 
 
     -- it is a missed variable exactly if that is the first missed, a doubled one exactly if none is missed and that is the first
     -- doubled, and covered exactly if there is neither
-    pub gives-missed : (v : Variable) → (covering_of rows marks #V ≡ Missed v) ↔ ((others : List Variable) × (missed #V f A ≡ v ∷ others))
+    pub gives-missed : (v : Variable) → (covering_of rows marks #V ≡ Err (Missed v)) ↔ ((others : List Variable) × (missed #V f A ≡ v ∷ others))
     gives-missed v = rw covering-is (by-missed (missed #V f A) (doubled #V f A) v)
 
     pub gives-doubled : (v : Variable)
-        → (covering_of rows marks #V ≡ Doubled v) ↔ ((missed #V f A ≡ []) × (others : List Variable) × (doubled #V f A ≡ v ∷ others))
+        → (covering_of rows marks #V ≡ Err (Doubled v)) ↔ ((missed #V f A ≡ []) × (others : List Variable) × (doubled #V f A ≡ v ∷ others))
     gives-doubled v = rw covering-is (by-doubled (missed #V f A) (doubled #V f A) v)
 
-    pub gives-covered : (covering_of rows marks #V ≡ Covered) ↔ ((missed #V f A ≡ []) × (doubled #V f A ≡ []))
+    pub gives-covered : (covering_of rows marks #V ≡ Ok tt) ↔ ((missed #V f A ≡ []) × (doubled #V f A ≡ []))
     gives-covered = rw covering-is (by-covered (missed #V f A) (doubled #V f A))
 
     -- refusals 11 and 12 of the judgement are those of the covering

@@ -4,14 +4,13 @@
 ghost use Rattle.std.specs.Prelude.{◌≡◌, true, false, ◌≤◌, ◌<◌, min};
 ghost use Rattle.rows.specs.Inside.Walk.{Walkable};
 ghost use Rattle.marks.specs.Marks.{is_marked};
-ghost use Rattle.keys.specs.Inside.Keys.{limit, total, leaf_keys, join_keys, keys_at};
+ghost use Rattle.keys.specs.Inside.Keys.{limit, total, leaf_keys, join_keys, keys_fold, keys_at};
 ghost use Rattle.paper.specs.Limits.{most_rows};
 
 use marks::is_marked;
-use paper::Label;
 use paper::limits::{MOST_ROWS, MOST_TRANSITIONS};
-use rows::walk::{expressions_of, first_of};
-use rows::{end_of, kind_of};
+use paper::{Label, Variable};
+use rows::walk::{Folding, value_of};
 
 // How many distinct keys are not empty, at most 65,536, and whether the empty key is one.
 #[derive(Clone, Copy)]
@@ -22,13 +21,9 @@ pub struct Distinct {
 
 // All keys, the empty one among them.
 pub fn total_of(k: Distinct) -> u64
-    requires { k.more ≤ limit }
     ensures { result ≡ total k }
 {
-    if k.empty {
-        return k.more as u64 + 1;
-    }
-    k.more as u64
+    u64::from(k.more) + u64::from(k.empty)
 }
 
 // One more than an accepted table can have.
@@ -38,56 +33,70 @@ const LIMIT: u64 = MOST_TRANSITIONS + 1;
 fn capped(x: u64) -> u32
     ensures { result ≡ min limit x }
 {
-    if x < LIMIT { x as u32 } else { LIMIT as u32 }
+    x.min(LIMIT) as u32
 }
 
-// A leaf's one key: not empty if the leaf is chosen.
-fn leaf_keys(marks: &[u8; MOST_ROWS], at: Label) -> Distinct
-    requires { at.0 < most_rows }
-    ensures { result ≡ leaf_keys (is_marked marks.now at.0) }
-{
-    if is_marked(marks, at) {
-        return Distinct {
-            more: 1,
-            empty: false,
-        };
-    }
-    Distinct {
-        more: 0,
-        empty: true,
-    }
-}
-
-// The keys of a conjunction of two: each of the one with each of the other.
+// The keys of a conjunction of two: each of the one with each of the other. In 64 bits no two are too many.
+#[tactic(auto, unfolding(crate::specs::Inside::Keys::join_keys))]
 fn keys_of_both(a: Distinct, b: Distinct) -> Distinct
-    requires { (a.more ≤ limit) × (b.more ≤ limit) }
     ensures { result ≡ join_keys true a b }
 {
-    let all = total_of(b);
-    let product = a.more as u64 * all;
-    if a.empty {
-        return Distinct {
-            more: capped(product + b.more as u64),
-            empty: b.empty,
-        };
-    }
+    let product = u64::from(a.more) * total_of(b);
+    let alone = if a.empty { u64::from(b.more) } else { 0 };
     Distinct {
-        more: capped(product),
-        empty: false,
+        more: capped(product + alone),
+        empty: a.empty & b.empty,
     }
 }
 
-// The keys of a join of what was read before and of one child more.
-fn join(conj: bool, a: Distinct, b: Distinct) -> Distinct
-    requires { (a.more ≤ limit) × (b.more ≤ limit) }
-    ensures { result ≡ join_keys conj a b }
+// The keys of a disjunction of two.
+#[tactic(auto, unfolding(crate::specs::Inside::Keys::join_keys))]
+fn keys_of_either(a: Distinct, b: Distinct) -> Distinct
+    ensures { result ≡ join_keys false a b }
 {
-    if conj {
-        return keys_of_both(a, b);
-    }
     Distinct {
-        more: capped(a.more as u64 + b.more as u64),
+        more: capped(u64::from(a.more) + u64::from(b.more)),
         empty: a.empty | b.empty,
+    }
+}
+
+// The walk that counts keys: a leaf has one, which is not empty if the leaf is chosen.
+#[derive(Drop)]
+struct Keys<'a> {
+    marks: &'a [u8; MOST_ROWS],
+}
+
+impl Folding for Keys<'_> {
+    type Value = Distinct;
+
+    ghost fold = { λ walk. keys_fold walk.marks.now };
+
+    fn at_leaf(&self, at: Label) -> Distinct {
+        let marks = self.marks;
+        let chosen = is_marked(marks, at);
+        Distinct {
+            more: u32::from(chosen),
+            empty: !chosen,
+        }
+    }
+
+    fn at_candidate(&self, at: Label, _v: Variable) -> Distinct {
+        self.at_leaf(at)
+    }
+
+    fn unit(&self, conj: bool) -> Distinct {
+        Distinct {
+            more: 0,
+            empty: conj,
+        }
+    }
+
+    fn join(&self, conj: bool, a: Distinct, b: Distinct) -> Distinct {
+        if conj {
+            keys_of_both(a, b)
+        } else {
+            keys_of_either(a, b)
+        }
     }
 }
 
@@ -96,27 +105,5 @@ pub fn keys_of(rows: &[u16], marks: &[u8; MOST_ROWS], n: u16, at: Label, left: u
     requires { Walkable rows.now n at.0 }
     ensures { (result ≡ keys_at rows.now marks.now left at.0) × (result.more ≤ limit) }
 {
-    if left == 0 {
-        return leaf_keys(marks, at);
-    }
-    let kind = kind_of(rows, at);
-    match kind {
-        0..=2 => leaf_keys(marks, at),
-        3..=6 => {
-            let conj = kind == 3;
-            let mut acc = Distinct {
-                more: 0,
-                empty: conj,
-            };
-            let mut k = first_of(rows, at);
-            let mut m = expressions_of(rows, at);
-            while 0 < m {
-                acc = join(conj, acc, keys_of(rows, marks, n, k, left - 1));
-                k = end_of(rows, k);
-                m -= 1;
-            }
-            acc
-        }
-        7..=65535 => leaf_keys(marks, at),
-    }
+    value_of(&Keys { marks }, rows, n, at, left)
 }

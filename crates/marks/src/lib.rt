@@ -1,7 +1,7 @@
 // The chosen labels as marks, a byte for each label, for the walks that count.
 #![tactic(auto)]
 
-ghost use Rattle.std.specs.Prelude.{◌≡◌, ◌<◌, map};
+ghost use Rattle.std.specs.Prelude.{◌≡◌, ◌<◌, map, length};
 ghost use Rattle.paper.specs.Formula.{ℓ};
 ghost use Rattle.marks.specs.Marks.{is_marked};
 ghost use Rattle.marks.specs.Inside.Chosen.{MarkedExactly, AllBelow};
@@ -11,12 +11,12 @@ use paper::Label;
 use paper::limits::MOST_ROWS;
 
 // Whether a label is marked.
-pub fn is_marked(marks: &[u8; MOST_ROWS], at: Label) -> bool
-    requires { at.0 < most_rows }
+#[tactic(auto, unfolding(crate::specs::Marks::is_marked))]
+pub fn is_marked(marks: &[u8], at: Label) -> bool
+    requires { at.0 < length marks.now }
     ensures { result ≡ is_marked marks.now at.0 }
 {
-    let i = at.0 as usize;
-    marks[i] == 1
+    marks[usize::from(at.0)] == 1
 }
 
 // The marks of the chosen labels.
@@ -24,12 +24,9 @@ pub fn marks_of(chosen: &[u16]) -> [u8; MOST_ROWS]
     requires { AllBelow most_rows chosen.now }
     ensures { MarkedExactly (map ℓ chosen.now) result }
 {
-    let mut marks = [0u8; MOST_ROWS];
-    let mut k = 0;
-    while k < chosen.len() {
-        let i = chosen[k] as usize;
-        marks[i] = 1;
-        k += 1;
+    let mut marks = [0; MOST_ROWS];
+    for &label in chosen {
+        marks[usize::from(label)] = 1;
     }
     marks
 }

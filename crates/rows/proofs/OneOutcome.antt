@@ -1,8 +1,12 @@
 -- For each public function, any two outcomes that its contract allows are equal.
 use mathlib.Core.Path.{refl, ap}
 use Rattle.paper.specs.Formula.{ℓ}
+use mir.Syntax.{Dict}
+use denote.RattleType.{RattleType}
+use denote.Param.Laws.{Laws}
 use Rattle.paper.specs.Outcome.{OneOutcome}
 use Rattle.paper.proofs.Outcome.{by-equation}
+use Rattle.rows.specs.declared.walk.Folding.{Ghosts}
 use Rattle.rows.proofs as rows
 use Rattle.rows.proofs.depth as depth
 use Rattle.rows.proofs.form as form
@@ -37,3 +41,8 @@ expressions-of κs a pre x y v w p q = (by-equation p q, refl)
 
 pub first_of : OneOutcome walk.first_of.Kinds.ps walk.first_of.Kinds.r walk.first_of.Reads.Pre walk.first_of.Reads.Post
 first_of κs a pre x y v w p q = (by-equation p q, refl)
+
+-- of a walk, whatever it works out
+pub value-of : (T U : RattleType) (t : Laws T) (u : Laws U) (F : Ghosts T.Denot U.Denot) (d : Dict)
+    → OneOutcome (walk.value_of.Kinds.ps T U t u) (walk.value_of.Kinds.r T U t u) (walk.value_of.Reads.Pre T U t u F d) (walk.value_of.Reads.Post T U t u F d)
+value-of T U t u F d κs a pre x y v w p q = (by-equation p q, refl)

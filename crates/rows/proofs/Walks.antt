@@ -4,10 +4,12 @@ use Prim.Native.Nat.{ℕ, zero, suc, ◌+◌, ◌-◌, ◌*◌, ◌<◌, ◌≤�
 use native.Mathlib.Omega.{arith}
 use native.Mathlib.Numerals.{sub-one}
 use mathlib.Core.Path.{◌≡◌, refl, sym, ap, ◌∙◌}
-use mathlib.Core.Bool.{Bool, true, false}
+use mathlib.Core.Logic.{◌⊎◌, inl, inr}
+use mathlib.Core.Bool.{Bool, true, false, true≢false}
 use mathlib.Core.List.{List, []}
 use lib.ListN.{length}
 use lib.Dec.{eqb}
+use borrow.Author.Tests.{ne_eqb}
 use Rattle.paper.specs.Limits.{most_rows}
 use Rattle.paper.specs.declared.Label.{Label}
 use Rattle.paper.specs.Formula.{ℓ, 𝓋, Formula}
@@ -16,7 +18,7 @@ use Rattle.rows.specs.Rows.{kind_of, arg_of, end_of, form_of, meets}
 use Rattle.rows.specs.declared.form.Form.{Form}
 use Rattle.rows.specs.declared.form.Form.TheVariants as form
 use Rattle.rows.specs.Formula.{star_at, children_at, node_at, formula_at}
-use Rattle.rows.specs.Inside.Walk.{expressions, first_under, expressions_at, first_at, Shaped, Walkable, skeleton_at, value_at, joined_from}
+use Rattle.rows.specs.Inside.Walk.{expressions, first_under, is_conjunction, expressions_at, first_at, Shaped, Walkable, skeleton_at, value_at, joined_from}
 use Rattle.rows.proofs.Forms.{by_form}
 use Rattle.rows.proofs.Rules.{number_of}
 use Rattle.rows.proofs.Meets.{Child, child}
@@ -27,25 +29,25 @@ module _ {A : Type 0} (r : Fold A) (rows : List ℕ) where
   unfolding value_at formula_at
   value_none left i e = rw e
 
-  -- row i, whose kind word is k, its children being read with one level less
-  value-node : (left i k : ℕ) → (left ≡ 0 → ⊥) → kind_of rows i ≡ k
-      → value_at r rows left i ≡ fold_of r (node_at rows [] (skeleton_at rows (left - 1)) i (form_of k))
+  -- row i, which is of form f, its children being read with one level less
+  value-node : (left i : ℕ) {f : Form} → (left ≡ 0 → ⊥) → f ≡ form_of (kind_of rows i)
+      → value_at r rows left i ≡ fold_of r (node_at rows [] (skeleton_at rows (left - 1)) i f)
   unfolding value_at formula_at
-  value-node zero i k deep e = absurd (deep refl)
-  value-node (suc left) i k deep e = rw (sub-one (suc left), e)
+  value-node zero i deep e = absurd (deep refl)
+  value-node (suc left) i deep e = rw (sub-one (suc left), e)
 
   -- the leaves
-  pub value-FALSE : (left i : ℕ) → (left ≡ 0 → ⊥) → kind_of rows i ≡ 0 → value_at r rows left i ≡ r.at_false (ℓ i)
-  unfolding node_at form_of
-  value-FALSE left i deep e = value-node left i 0 deep e
+  pub value-lone : {left i : ℕ} {f : Form} {a : A} → (left ≡ 0 → ⊥) → f ≡ form_of (kind_of rows i)
+      → ((f ≡ form.False) ⊎ ((f ≡ form.Star) ⊎ (f ≡ form.Unknown))) → a ≡ r.at_false (ℓ i) → a ≡ r.at_test (ℓ i) → a ≡ value_at r rows left i
+  unfolding node_at star_at
+  value-lone deep e (inl g) d d' = d ∙ sym (value-node _ _ deep (sym g ∙ e))
+  value-lone deep e (inr (inl g)) d d' = d' ∙ sym (value-node _ _ deep (sym g ∙ e))
+  value-lone deep e (inr (inr g)) d d' = d ∙ sym (value-node _ _ deep (sym g ∙ e))
 
-  pub value-test : (left i : ℕ) → (left ≡ 0 → ⊥) → kind_of rows i ≡ 1 → value_at r rows left i ≡ r.at_test (ℓ i)
-  unfolding node_at star_at form_of
-  value-test left i deep e = value-node left i 1 deep e
-
-  pub value-candidate : (left i : ℕ) → (left ≡ 0 → ⊥) → kind_of rows i ≡ 2 → value_at r rows left i ≡ r.at_candidate (ℓ i) (𝓋 (arg_of rows i))
-  unfolding node_at form_of
-  value-candidate left i deep e = value-node left i 2 deep e
+  pub value-candidate : {left i : ℕ} {f : Form} {a : A} → (left ≡ 0 → ⊥) → f ≡ form_of (kind_of rows i)
+      → f ≡ form.Candidate → a ≡ r.at_candidate (ℓ i) (𝓋 (arg_of rows i)) → a ≡ value_at r rows left i
+  unfolding node_at
+  value-candidate deep e g d = d ∙ sym (value-node _ _ deep (sym g ∙ e))
 
   -- the children of a conjunction or disjunction, of which there is one or more
   read-children : (left : ℕ) (c : Bool) (a : A) (more i : ℕ)
@@ -82,7 +84,7 @@ module _ {A : Type 0} (r : Fold A) (rows : List ℕ) where
   pub value-join : (left i : ℕ) → (left ≡ 0 → ⊥) → 0 < expressions_at rows i
       → value_at r rows left i ≡ joined_from r rows (left - 1) (eqb (kind_of rows i) 3) (r.unit (eqb (kind_of rows i) 3))
       (expressions_at rows i) (first_at rows i)
-  value-join left i deep some = value-node left i (kind_of rows i) deep refl ∙ joins (left - 1) i (kind_of rows i) some
+  value-join left i deep some = value-node left i deep refl ∙ joins (left - 1) i (kind_of rows i) some
 
   -- one more expression, and no more
   pub joined_step : (left : ℕ) (c : Bool) (a : A) (m i : ℕ) → 0 < m
@@ -155,36 +157,73 @@ module _ {rows : List ℕ} {#N : ℕ} where
     pub along-next : Along rows #N (m - 1) (end_of rows k)
     along-next = record { shaped = a.shaped; stop = a.stop; within = a.within; meet = (first-child rows a.stop k m some a.meet).others }
 
--- The invariant of a loop over the expressions under a row that is read `left` levels deep at most. The loop began with a₀ and
--- with m₀ expressions from label k₀ on; now a is joined, and m are left, from k on. Joined to a, these give what all give.
-pub record Walking {A : Type 0} (r : Fold A) (rows : List ℕ) (#N left : ℕ) (c : Bool) (a₀ : A) (m₀ : ℕ) (k₀ : Label) (a : A) (m : ℕ) (k : Label)
-    : Type 0 where
-  pub along : Along rows #N m k.0
-  pub value : joined_from r rows (left - 1) c a m k.0 ≡ joined_from r rows (left - 1) c a₀ m₀ k₀.0
+-- the forms with expressions under them, and their kind words
+abbrev pub IsJoin : Form → Type 0
+IsJoin f = (f ≡ form.Conjunction) ⊎ ((f ≡ form.Disjunction) ⊎ ((f ≡ form.Exists) ⊎ (f ≡ form.If)))
 
-module _ {A : Type 0} {r : Fold A} {rows : List ℕ} {#N left : ℕ} {a₀ : A} {m₀ : ℕ} {k₀ : Label} where
+abbrev is_leaf : Form → Bool
+is_leaf form.False = true
+is_leaf form.Star = true
+is_leaf form.Candidate = true
+is_leaf form.Conjunction = false
+is_leaf form.Disjunction = false
+is_leaf form.Exists = false
+is_leaf form.If = false
+is_leaf form.Unknown = false
+
+no-leaf : {f : Form} → IsJoin f → is_leaf f ≡ false
+no-leaf (inl e) = ap is_leaf e
+no-leaf (inr (inl e)) = ap is_leaf e
+no-leaf (inr (inr (inl e))) = ap is_leaf e
+no-leaf (inr (inr (inr e))) = ap is_leaf e
+
+pub join-kind : {k : ℕ} {f : Form} → f ≡ form_of k → IsJoin f → 2 < k
+join-kind {k} e join =
+    by_form (λ f. is_leaf f ≡ false → 2 < k) k (λ e h. absurd (true≢false h)) (λ e h. absurd (true≢false h)) (λ e h. absurd (true≢false h))
+    (λ e h. omega arith) (λ e h. omega arith) (λ e h. omega arith) (λ e h. omega arith) (λ g h. omega arith)
+    (ap is_leaf (sym e) ∙ no-leaf join)
+
+conjunction-kind : (k : ℕ) → is_conjunction (form_of k) ≡ eqb k 3
+conjunction-kind k =
+    by_form (λ f. is_conjunction f ≡ eqb k 3) k (λ e. rw e) (λ e. rw e) (λ e. rw e) (λ e. rw e) (λ e. rw e) (λ e. rw e) (λ e. rw e)
+    (λ h. sym (ne_eqb k 3 (λ e. omega arith)))
+
+-- The invariant of a loop over the expressions under row i, which is read `left` levels deep at most: j of them are passed, a is
+-- what they joined to, and the next stands at label k. Joined to a, those still to come give the value at the row.
+pub record Walking {A : Type 0} (r : Fold A) (rows : List ℕ) (#N left i : ℕ) (c : Bool) (a : A) (j : ℕ) (k : Label) : Type 0 where
+  pub along : Along rows #N (expressions_at rows i - j) k.0
+  pub value : joined_from r rows (left - 1) c a (expressions_at rows i - j) k.0 ≡ value_at r rows left i
+
+module _ {A : Type 0} {r : Fold A} {rows : List ℕ} {#N left i : ℕ} where
   -- it holds as the loop begins
-  pub walk_begins : {c : Bool} {i : ℕ} → Walkable rows #N i → m₀ ≡ expressions_at rows i → k₀ ≡ ℓ (first_at rows i)
-      → Walking r rows #N left c a₀ m₀ k₀ a₀ m₀ k₀
-  walk_begins w d e = record { along = rw (d, number_of e) (along_under w); value = refl }
+  pub walk_begins : {f : Form} {c : Bool} {a : A} {k : Label} → Walkable rows #N i → (left ≡ 0 → ⊥) → f ≡ form_of (kind_of rows i) → IsJoin f
+      → c ≡ is_conjunction f → a ≡ r.unit c → k ≡ ℓ (first_at rows i) → Walking r rows #N left i c a 0 k
+  walk_begins w deep is join d e g =
+      let all : expressions_at rows i - 0 ≡ expressions_at rows i = omega arith in
+      let some = w.shaped.joined i w.here (join-kind is join) in
+      record {
+        along = rw (all, number_of g) (along_under w);
+        value = rw (all, number_of g, e, d, is, conjunction-kind (kind_of rows i)) (sym (value-join r rows left i deep some));
+      }
 
-  module _ {c : Bool} {a : A} {m : ℕ} {k : Label} (s : Walking r rows #N left c a₀ m₀ k₀ a m k) (some : 0 < m) where
-    -- in a turn the walk can go on at k
-    pub walk-on : Walkable rows #N k.0
-    walk-on = along-on s.along some
+  module _ {c : Bool} {a : A} {j : ℕ} {k : Label} (s : Walking r rows #N left i c a j k) where
+    module _ (more : j < expressions_at rows i) where
+      -- in a turn the walk can go on at k
+      pub walk-on : Walkable rows #N k.0
+      walk-on = along-on s.along (omega arith)
 
-    -- and after it, with the value at k joined and k moved to its end, it holds again
-    pub walk-turns : {b a' : A} {k' : Label} → b ≡ value_at r rows (left - 1) k.0 → a' ≡ r.join c a b → k' ≡ ℓ (end_of rows k.0)
-        → Walking r rows #N left c a₀ m₀ k₀ a' (m - 1) k'
-    walk-turns d e f = record {
-      along = rw (number_of f) (along-next s.along some);
-      value = rw (number_of f, e, d) (sym (joined_step r rows (left - 1) c a m k.0 some) ∙ s.value);
-    }
+      -- and after it, with the value at k joined and k moved to its end, it holds again
+      pub walk-turns : {b a' : A} {k' : Label} → b ≡ value_at r rows (left - 1) k.0 → a' ≡ r.join c a b → k' ≡ ℓ (end_of rows k.0)
+          → Walking r rows #N left i c a' (j + 1) k'
+      walk-turns d e f =
+          let m = expressions_at rows i - j in
+          let some : 0 < m = omega arith in
+          let one_less : expressions_at rows i - (j + 1) ≡ m - 1 = omega arith in
+          record {
+            along = rw (one_less, number_of f) (along-next s.along some);
+            value = rw (one_less, number_of f, e, d) (sym (joined_step r rows (left - 1) c a m k.0 some) ∙ s.value);
+          }
 
-  -- with no expression left, what is joined is the value at the row
-  pub walk_ends : {i kind : ℕ} {a : A} {m : ℕ} {k : Label} → Walkable rows #N i → Walking r rows #N left (eqb kind 3) a₀ m₀ k₀ a m k → m ≤ 0
-      → (left ≡ 0 → ⊥) → kind ≡ kind_of rows i → 2 < kind → a₀ ≡ r.unit (eqb kind 3) → m₀ ≡ expressions_at rows i → k₀ ≡ ℓ (first_at rows i)
-      → a ≡ value_at r rows left i
-  walk_ends {i = i} {kind = kind} {a = a} {m = m} {k = k} w s done deep is high d e f =
-      sym (joined_end r rows (left - 1) (eqb kind 3) a m k.0 (omega arith)) ∙ s.value
-      ∙ rw (number_of f, e, d, is) (sym (value-join r rows left i deep (w.shaped.joined i w.here (omega arith))))
+    -- with no expression left, what is joined is the value at the row
+    pub walk_ends : expressions_at rows i ≤ j → a ≡ value_at r rows left i
+    walk_ends done = sym (joined_end r rows (left - 1) c a (expressions_at rows i - j) k.0 (omega arith)) ∙ s.value

@@ -1,24 +1,79 @@
-// What a walk over the rows of a formula goes by: the expressions right under a row.
+// A walk over the rows of a formula: the expressions right under a row, and the value of a fold that is worked out by recursion.
 ghost use Rattle.std.specs.Prelude.{◌≡◌, ◌+◌, ◌*◌, ◌≤◌, ◌<◌, length};
 ghost use Rattle.paper.specs.Formula.{ℓ};
-ghost use Rattle.rows.specs.Inside.Walk.{expressions_at, first_at};
+ghost use Rattle.paper.specs.Inside.Structure.Fold.{Fold};
+ghost use Rattle.rows.specs.Inside.Walk.{expressions_at, first_at, is_conjunction, Walkable, value_at};
 ghost use Rattle.paper.specs.Limits.{most_rows};
 
-use crate::{arg_of, kind_of};
-use paper::Label;
+use crate::form::{Form, form_of};
+use crate::{arg_of, end_of};
+use paper::{Label, Variable};
+
+// What a walk works out of a formula: a value for each leaf, and how the values of a join's children are joined from a unit on.
+pub trait Folding {
+    type Value;
+
+    ghost fold: { Self → Fold Self.Value };
+
+    // the value of FALSE or a test
+    fn at_leaf(&self, at: Label) -> Self::Value
+        requires { at.0 < most_rows }
+        ensures { (result ≡ (fold self.now).at_false at) × (result ≡ (fold self.now).at_test at) };
+
+    fn at_candidate(&self, at: Label, v: Variable) -> Self::Value
+        requires { at.0 < most_rows }
+        ensures { result ≡ (fold self.now).at_candidate at v };
+
+    fn unit(&self, conj: bool) -> Self::Value
+        ensures { result ≡ (fold self.now).unit conj };
+
+    // what was read before and one child more
+    fn join(&self, conj: bool, a: Self::Value, b: Self::Value) -> Self::Value
+        ensures { result ≡ (fold self.now).join conj a b };
+}
+
+// Whether it is a conjunction whose values are joined.
+fn is_conjunction(form: Form) -> bool
+    ensures { result ≡ is_conjunction form }
+{
+    matches!(form, Form::Conjunction)
+}
+
+// The value of the formula at a row, `left` levels deep at most.
+pub fn value_of<W: Folding>(walk: &W, rows: &[u16], n: u16, at: Label, left: u16) -> W::Value
+    requires { Walkable rows.now n at.0 }
+    ensures { result ≡ value_at (W.fold walk.now) rows.now left at.0 }
+{
+    if left == 0 {
+        return walk.at_leaf(at);
+    }
+    let form = form_of(rows, at);
+    match form {
+        Form::False | Form::Star | Form::Unknown => walk.at_leaf(at),
+        Form::Candidate => walk.at_candidate(at, Variable(arg_of(rows, at))),
+        Form::Conjunction | Form::Disjunction | Form::Exists | Form::If => {
+            let conj = is_conjunction(form);
+            let mut acc = walk.unit(conj);
+            let mut k = first_of(rows, at);
+            for _ in 0..expressions_of(rows, at) {
+                acc = walk.join(conj, acc, value_of(walk, rows, n, k, left - 1));
+                k = end_of(rows, k);
+            }
+            acc
+        }
+    }
+}
 
 // How many expressions stand right under a row.
 pub fn expressions_of(rows: &[u16], at: Label) -> u16
     requires { 4 * at.0 + 4 ≤ length rows.now }
     ensures { result ≡ expressions_at rows.now at.0 }
 {
-    let kind = kind_of(rows, at);
-    match kind {
-        0..=2 => 0,
-        3..=4 => arg_of(rows, at),
-        5 => 1,
-        6 => 2,
-        7..=65535 => 0,
+    match form_of(rows, at) {
+        Form::False | Form::Star | Form::Candidate | Form::Unknown => 0,
+        Form::Conjunction | Form::Disjunction => arg_of(rows, at),
+        Form::Exists => 1,
+        Form::If => 2,
     }
 }
 
@@ -27,12 +82,10 @@ pub fn first_of(rows: &[u16], at: Label) -> Label
     requires { (4 * at.0 + 4 ≤ length rows.now) × (at.0 < most_rows) }
     ensures { result ≡ ℓ (first_at rows.now at.0) }
 {
-    let kind = kind_of(rows, at);
-    match kind {
-        0..=1 => Label(at.0 + 1),
-        2 => Label(at.0 + 2),
-        3..=4 => Label(at.0 + 1),
-        5..=6 => Label(at.0 + 2),
-        7..=65535 => Label(at.0 + 1),
+    match form_of(rows, at) {
+        Form::Candidate | Form::Exists | Form::If => Label(at.0 + 2),
+        Form::False | Form::Star | Form::Conjunction | Form::Disjunction | Form::Unknown => Label(
+            at.0 + 1,
+        ),
     }
 }

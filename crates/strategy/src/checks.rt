@@ -10,7 +10,7 @@ ghost use Rattle.paper.specs.Limits.{most_depth, slots};
 
 use crate::choice::first_stranger;
 use crate::Accepted;
-use cover::{Covering, covering_of};
+use cover::covering_of;
 use cycles::lowest_on_cycle;
 use keys::{keys_of, total_of};
 use marks::marks_of;
@@ -79,10 +79,6 @@ pub fn judge_parts(
         return Err(refusal_at(Fault::NoCandidate, usize::from(chosen[k])));
     }
     let marks = marks_of(chosen);
-    let covering = covering_of(rows, &marks, l.rows as u16, l.variables as u16);
-    match covering {
-        Covering::Missed(v) => Err(refusal_at(Fault::VariableMissed, usize::from(v.0))),
-        Covering::Doubled(v) => Err(refusal_at(Fault::VariableTwice, usize::from(v.0))),
-        Covering::Covered => ordered(rows, reads, chosen, &marks, l, out),
-    }
+    covering_of(rows, &marks, l.rows as u16, l.variables as u16)?;
+    ordered(rows, reads, chosen, &marks, l, out)
 }

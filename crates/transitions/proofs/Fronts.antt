@@ -7,21 +7,17 @@ use mathlib.Core.Path.{◌≡◌, refl, sym, ap, ◌∙◌}
 use mathlib.Core.Bool.{Bool, true, false, cond}
 use mathlib.Core.List.{List, [], ◌∷◌, ◌++◌, append_assoc, append-nil}
 use lib.ListN.{length, get_or, set, take, drop, length-append, take-append-drop}
-use lib.Seq.{drop-cons, set_at, take-suc, take-take}
+use lib.Seq.{drop-cons, set_at, take-suc, take-take, take_all}
 use Rattle.paper.specs.Lists.{those}
 use Rattle.paper.proofs.Lists.{those-append}
 use Rattle.marks.specs.Marks.{is_marked}
-use Rattle.transitions.specs.Inside.Assigned.{kept_of, Fillable}
+use Rattle.transitions.specs.Inside.Assigned.{kept_of}
 
 -- the front xs of length n, with one element more
 pub front-more : (xs out : List ℕ) (n a : ℕ) → length xs ≡ n → n < length out → set (xs ++ drop n out) n a ≡ (xs ++ a ∷ []) ++ drop (n + 1) out
 front-more xs out n a e h =
     ap (λ ys. set (xs ++ ys) n a) (drop-cons out n 0 h) ∙ set_at xs (get_or out n 0) (drop (suc n) out) a n e
     ∙ sym (append_assoc xs (a ∷ []) (drop (suc n) out)) ∙ ap (λ m. (xs ++ a ∷ []) ++ drop m out) (sym (add-one n))
-
-pub at_most_one : (t : Bool) → cond t 1 0 ≤ 1
-at_most_one true = omega arith
-at_most_one false = omega arith
 
 module _ (p : ℕ → Bool) (xs : List ℕ) where
   abbrev kept : ℕ → List ℕ
@@ -60,45 +56,42 @@ module _ (p : ℕ → Bool) (xs : List ℕ) where
       go true fits = front-more (kept i) out₀ filled (get_or xs i 0) (sym e) (fits refl)
       go false fits = rw (append-nil, add-zero)
 
--- The loop of `fill_assigned`: i labels are passed, and those of them that are kept stand at the front of what was out₀.
-pub record Filling (order : List ℕ) (count : ℕ) (bytes out₀ out : List ℕ) (filled i : ℕ) : Type 0 where
-  pub passed : i ≤ count
+-- The loop of `fill_assigned`: i of the labels ws are passed, and those of them that are kept stand at the front of what was out₀.
+pub record Filling (ws bytes out₀ out : List ℕ) (filled i : ℕ) : Type 0 where
   pub same_length : length out ≡ length out₀
-  pub filled_is : filled ≡ length (kept_of bytes (take i order))
-  pub out_is : out ≡ kept_of bytes (take i order) ++ drop filled out₀
+  pub filled_is : filled ≡ length (kept_of bytes (take i ws))
+  pub out_is : out ≡ kept_of bytes (take i ws) ++ drop filled out₀
 
-module _ {order : List ℕ} {count : ℕ} {bytes out₀ : List ℕ} (a : Fillable order count bytes out₀) where
-  pub filling-begins : Filling order count bytes out₀ out₀ 0 0
-  filling-begins = record { passed = omega arith; same_length = refl; filled_is = refl; out_is = refl }
+pub filling-begins : {ws bytes out₀ : List ℕ} → Filling ws bytes out₀ out₀ 0 0
+filling-begins = record { same_length = refl; filled_is = refl; out_is = refl }
 
-  module _ {out : List ℕ} {filled i : ℕ} (f : Filling order count bytes out₀ out filled i) where
-    module _ (more : i < count) {so : Bool} (so-is : so ≡ is_marked bytes (get_or order i 0)) where
-      -- one that is kept has room
-      pub filling-room : so ≡ true → filled < length out
-      filling-room e =
-          let one : ◌≡◌ {A = ℕ} (cond so 1 0) 1 = rw e in
-          let there = a.there in
-          omega (
-            arith,
-            f.same_length,
-            a.room,
-            count-step (is_marked bytes) order (omega arith) f.filled_is so-is,
-            count-grows (is_marked bytes) order (i + 1) count (omega arith),
-          )
+module _ {ws bytes out₀ out : List ℕ} {filled i : ℕ} (room : length (kept_of bytes ws) ≤ length out₀) (f : Filling ws bytes out₀ out filled i)
+    (more : i < length ws) where
+  -- there is room for one more that is kept
+  pub filling-room : is_marked bytes (get_or ws i 0) ≡ true → filled < length out
+  filling-room on =
+      omega (
+        arith,
+        f.same_length,
+        count-step (is_marked bytes) ws more f.filled_is (sym on),
+        count-grows (is_marked bytes) ws (i + 1) (length ws) (omega arith),
+        ap (λ ys. length (kept_of bytes ys)) (take_all (length ws) ws (omega arith)),
+      )
 
-      pub filling-turns : {out' : List ℕ} {filled' : ℕ} → length out' ≡ length out → out' ≡ cond so (set out filled (get_or order i 0)) out
-          → filled' ≡ filled + cond so 1 0 → Filling order count bytes out₀ out' filled' (i + 1)
-      filling-turns same d e =
-          let there = a.there in
-          let h : i < length order = omega arith in
-          let fits : so ≡ true → filled < length out₀ = λ on. let r = filling-room on in let s = f.same_length in omega arith in
-          record {
-            passed = omega arith;
-            same_length = same ∙ f.same_length;
-            filled_is = e ∙ count-step (is_marked bytes) order h f.filled_is so-is;
-            out_is = d ∙ rw (f.out_is, e) (put_step (is_marked bytes) order i filled so out₀ h so-is f.filled_is fits);
-          }
+  turned : {so : Bool} → so ≡ is_marked bytes (get_or ws i 0) → {out' : List ℕ} {filled' : ℕ} → length out' ≡ length out
+      → out' ≡ cond so (set out filled (get_or ws i 0)) out → filled' ≡ filled + cond so 1 0 → Filling ws bytes out₀ out' filled' (i + 1)
+  turned {so} so-is same d e =
+      let fits : so ≡ true → filled < length out₀ = λ on. let r = filling-room (sym so-is ∙ on) in let s = f.same_length in omega arith in
+      record {
+        same_length = same ∙ f.same_length;
+        filled_is = e ∙ count-step (is_marked bytes) ws more f.filled_is so-is;
+        out_is = d ∙ rw (f.out_is, e) (put_step (is_marked bytes) ws i filled so out₀ more so-is f.filled_is fits);
+      }
 
-    pub filling-ends : count ≤ i
-        → (filled ≡ length (kept_of bytes (take count order))) × (out ≡ kept_of bytes (take count order) ++ drop filled out₀)
-    filling-ends done = let e : count ≡ i = let p = f.passed in omega arith in rw e (f.filled_is, f.out_is)
+  module _ {out' : List ℕ} {filled' : ℕ} (same : length out' ≡ length out) where
+    pub filling-puts : is_marked bytes (get_or ws i 0) ≡ true → out' ≡ set out filled (get_or ws i 0) → filled' ≡ filled + 1
+        → Filling ws bytes out₀ out' filled' (i + 1)
+    filling-puts on d e = turned (sym on) same d e
+
+    pub filling-passes : is_marked bytes (get_or ws i 0) ≡ false → out' ≡ out → filled' ≡ filled → Filling ws bytes out₀ out' filled' (i + 1)
+    filling-passes off d e = turned (sym off) same d (omega arith)

@@ -7,15 +7,20 @@ use native.Mathlib.Numerals.{sub-one}
 use native.Mathlib.Nat.{mul-one, div-one}
 use mathlib.Core.Path.{◌≡◌, refl, sym, ap, ap₂, ◌∙◌}
 use mathlib.Core.Bool.{Bool, true, false, cond, not, ◌||◌}
+use mathlib.Core.Logic.{◌⊎◌, inl, inr}
 use mathlib.Core.List.{List, [], ◌∷◌, ◌++◌, append-nil}
 use lib.Dec.{eqb, ltb}
-use borrow.Author.Tests.{ltb-false, lt-ltb, eqb-true, eqb-false}
+use borrow.Author.Tests.{ltb-false, lt-ltb, eqb-true, eqb-false, ne_eqb}
+use Rattle.std.specs.Prelude.{Option, None, Some}
+use Rattle.std.specs.Bool.{then_some}
 use Rattle.paper.specs.Limits.{most_transitions}
 use Rattle.paper.specs.declared.Label.{Label}
 use Rattle.paper.specs.Formula.{ℓ, Formula, Formulas}
 use Rattle.paper.specs.Inside.Structure.KeyCount.{key_count_of, number_of, number_of_each}
 use Rattle.paper.specs.Inside.Structure.Kept.{kept_at, kept_each, kept_any, kept_all}
 use Rattle.rows.specs.Rows.{kind_of, arg_of, end_of, form_of}
+use Rattle.rows.specs.declared.form.Form.{Form}
+use Rattle.rows.specs.declared.form.Form.TheVariants as form
 use Rattle.rows.specs.Formula.{star_at, children_at, node_at, formula_at}
 use Rattle.rows.specs.Inside.Walk.{expressions, first_under, expressions_at, first_at, Walkable}
 use Rattle.rows.proofs.Forms.{by_form}
@@ -29,7 +34,7 @@ use Rattle.keys.proofs.KeysUnder.{keys-multiply, keys-add, keys-within, keys-pas
 use Rattle.transitions.specs.declared.Shares.{Shares}
 use Rattle.transitions.specs.declared.Shares.TheVariants.{Each, All, One, Done}
 use Rattle.transitions.specs.declared.Turn.{Turn}
-use Rattle.transitions.specs.Inside.Kept.{one_turn, turn_of, shares_of, to_come}
+use Rattle.transitions.specs.Inside.Kept.{one_turn, turn_of, goes_by_each, shares_of}
 use Rattle.transitions.proofs.Sharing.{Fits, divided, fits_next}
 
 -- a row of a form, its children being read with one level less
@@ -47,9 +52,18 @@ under rows reads left i = children_at rows reads (formula_at rows reads (left - 
 abbrev kept_of_under : List Label → Bool → Bool → Formulas → ℕ → List Label
 kept_of_under A each empty fs k = cond each (kept_each A fs k) (cond empty (kept_all A fs) (kept_any A fs k))
 
+-- the forms without expressions under them
+abbrev pub IsLeaf : Form → Type 0
+IsLeaf f = (f ≡ form.False) ⊎ ((f ≡ form.Star) ⊎ ((f ≡ form.Candidate) ⊎ (f ≡ form.Unknown)))
+
 -- a conjunction's expressions go by quotient and remainder, and so does the one of an exists
 abbrev pub each_under : ℕ → Bool
 each_under kind = eqb kind 3 || eqb kind 5
+
+pub each-kind : (k : ℕ) → goes_by_each (form_of k) ≡ each_under k
+each-kind k =
+    by_form (λ f. goes_by_each f ≡ each_under k) k (λ e. rw e) (λ e. rw e) (λ e. rw e) (λ e. rw e) (λ e. rw e) (λ e. rw e) (λ e. rw e)
+    (λ h. let apart = ne_eqb k 3 (λ e. omega arith) in let apart' = ne_eqb k 5 (λ e. omega arith) in rw (apart, apart'))
 
 module _ (A : List Label) (rows reads : List ℕ) (left i k : ℕ) where
   -- with no level left, and at a row without expressions under it
@@ -58,12 +72,13 @@ module _ (A : List Label) (rows reads : List ℕ) (left i k : ℕ) where
   kept-none e = rw e
 
   module _ (deep : left ≡ 0 → ⊥) where
-    pub kept-lone : (kind : ℕ) → kind ≡ kind_of rows i → kind < 3 → kept_at A (formula_at rows reads left i) k ≡ ℓ i ∷ []
-    unfolding node_at form_of star_at
-    kept-lone zero e low = rw (formula-node rows reads left i deep, ← e)
-    kept-lone (suc zero) e low = rw (formula-node rows reads left i deep, ← e)
-    kept-lone (suc (suc zero)) e low = rw (formula-node rows reads left i deep, ← e)
-    kept-lone (suc (suc (suc kind))) e low = absurd (omega arith)
+    pub kept-lone : {f : Form} → f ≡ form_of (kind_of rows i) → IsLeaf f
+        → kept_at A (formula_at rows reads left i) k ≡ ℓ i ∷ []
+    unfolding node_at star_at
+    kept-lone e (inl g) = rw (formula-node rows reads left i deep, ← e, g)
+    kept-lone e (inr (inl g)) = rw (formula-node rows reads left i deep, ← e, g)
+    kept-lone e (inr (inr (inl g))) = rw (formula-node rows reads left i deep, ← e, g)
+    kept-lone e (inr (inr (inr g))) = rw (formula-node rows reads left i deep, ← e, g)
 
     kept-join : 2 < kind_of rows i → kind_of rows i < 7
         → kept_at A (formula_at rows reads left i) k
@@ -94,8 +109,12 @@ turn_at rows marks left s i = turn_of s (total (keys_at rows marks left i))
 
 module _ (A : List Label) (rows marks reads : List ℕ) (left : ℕ) where
   -- what the expression at row i keeps in a turn
+  abbrev pub kept_by : Option ℕ → ℕ → List Label
+  kept_by None i = []
+  kept_by (Some k) i = kept_at A (formula_at rows reads left i) k
+
   abbrev pub kept_in : Turn → ℕ → List Label
-  kept_in t i = cond t.on (kept_at A (formula_at rows reads left i) t.key) []
+  kept_in t i = kept_by t.key i
 
   -- what m expressions from row i on keep in their turns, each at the end of the one before
   unfoldable pub kept_from : Shares → ℕ → ℕ → List Label
@@ -112,17 +131,10 @@ module _ (A : List Label) (rows marks reads : List ℕ) (left : ℕ) where
   unfolding kept_from
   kept-end s m i e = rw e
 
-  none_after : (m i : ℕ) → kept_from Done m i ≡ []
+  pub none_after : (m i : ℕ) → kept_from Done m i ≡ []
   unfolding kept_from turn_of
   none_after zero i = refl
   none_after (suc m) i = none_after m (end_of rows i)
-
-  pub kept-to-come : (s : Shares) (m i : ℕ) → kept_from s (to_come s m) i ≡ kept_from s m i
-  unfolding kept_from
-  kept-to-come (Each k all) m i = refl
-  kept-to-come All m i = refl
-  kept-to-come (One k) m i = refl
-  kept-to-come Done m i = sym (none_after m i)
 
 some_more : (more : ℕ) → 0 < suc more
 some_more more = omega arith
@@ -187,17 +199,17 @@ module _ (A : List Label) (marks : List ℕ) (marked : Marked A marks) (rows rea
       let h = ltb-false k (own i) e in any-from more (end_of rows i) (k - own i) (others a) (omega arith, omega arith))
 
   -- all, each in its first key
-  where-any : (t : Bool) (ls : List Label) → cond t [] ls ≡ cond (not t) ls []
-  where-any true ls = refl
-  where-any false ls = refl
+  where-any : (t : Bool) (i : ℕ) → cond t [] (kept_at A (child i) 0) ≡ kept_by A rows marks reads left (then_some (not t) 0) i
+  where-any true i = refl
+  where-any false i = refl
 
   all_from : (more i : ℕ) → Along rows #N (suc more) i → Fits All (totals (suc more) i)
       → kept_all A (children more i) ≡ from All (suc more) i
   unfolding numbers_from children_at kept_from turn_of
-  all_from zero i a f = rw (number_is (along-on a (some_more zero)) f.0) (where-any (eqb (own i) 0) _ ∙ sym (append-nil _))
+  all_from zero i a f = rw (number_is (along-on a (some_more zero)) f.0) (where-any (eqb (own i) 0) i ∙ sym (append-nil _))
   all_from (suc more) i a f =
       rw (number_is (along-on a (some_more (suc more))) f.0)
-      (ap₂ ◌++◌ (where-any (eqb (own i) 0) _) (all_from more (end_of rows i) (others a) f.1))
+      (ap₂ ◌++◌ (where-any (eqb (own i) 0) i) (all_from more (end_of rows i) (others a) f.1))
 
   all-or-any : (e : Bool) (more i k : ℕ) → Along rows #N (suc more) i → Fits (cond e All (One k)) (totals (suc more) i)
       → cond e (kept_all A (children more i)) (kept_any A (children more i) k) ≡ from (cond e All (One k)) (suc more) i

@@ -3,11 +3,14 @@
 use Prim.Native.Nat.{ℕ, ◌*◌, ◌/◌, ◌<◌, ◌≤◌}
 use native.Mathlib.Omega.{arith}
 use native.Mathlib.Nat.{mul-le-mul_left, mul-le-mul_right, mod-lt, div-eq_of_eq-mul_right, div-lt_iff_lt-mul}
-use mathlib.Core.Path.{◌≡◌, refl}
-use mathlib.Core.Bool.{Bool, true, false, false≢true}
+use mathlib.Core.Path.{◌≡◌, refl, ap}
+use mathlib.Core.Bool.{Bool, true, false, not, false≢true}
 use mathlib.Core.List.{List, ◌∷◌}
 use lib.Dec.{eqb, ltb}
-use borrow.Author.Tests.{ltb-true, ltb-false, eqb-false, not-true}
+use borrow.Author.Tests.{ltb-true, ltb-false, eqb-false}
+use Rattle.std.specs.Prelude.{Some, is_some}
+use Rattle.std.specs.Option.{unwrap_or}
+use Rattle.std.specs.Bool.{then_some}
 use Rattle.paper.specs.Limits.{most_transitions}
 use Rattle.keys.proofs.KeysUnder.{product_of, sum_of, AllWithin, factors-some}
 use Rattle.transitions.specs.declared.Shares.{Shares}
@@ -58,14 +61,25 @@ module _ (n : ℕ) (ns : List ℕ) where
   fits_next (One k) f = one-next k (ltb k n) refl f
   fits_next Done f = tt
 
-  one_on : (k : ℕ) (t : Bool) → ltb k n ≡ t → Fits (One k) (n ∷ ns) → (one_turn t k n).on ≡ true
-      → (n ≤ most_transitions) × ((one_turn t k n).key < n)
-  one_on k true e f on = (omega arith, ltb-true k n e)
-  one_on k false e f on = absurd (false≢true on)
+  -- the first key is a key of its own, where it has one
+  first_on : {q : ℕ} → then_some (not (eqb n 0)) 0 ≡ Some q → q < n
+  first_on {q} = go (eqb n 0) refl
+    where
+      go : (t : Bool) → eqb n 0 ≡ t → then_some (not t) 0 ≡ Some q → q < n
+      go true e on = absurd (false≢true (ap is_some on))
+      go false e on = let apart = eqb-false n 0 e in omega (arith, ap (λ o. unwrap_or o 0) on, apart)
 
-  pub fits_on : (s : Shares) → Fits s (n ∷ ns) → (turn_of s n).on ≡ true → (n ≤ most_transitions) × ((turn_of s n).key < n)
+  one_on : (k : ℕ) (t : Bool) → ltb k n ≡ t → Fits (One k) (n ∷ ns) → {q : ℕ} → (one_turn t k n).key ≡ Some q
+      → (n ≤ most_transitions) × (q < n)
+  one_on k true e f on = (omega arith, omega (arith, ap (λ o. unwrap_or o 0) on, ltb-true k n e))
+  one_on k false e f on = absurd (false≢true (ap is_some on))
+
+  pub fits_on : (s : Shares) → Fits s (n ∷ ns) → {q : ℕ} → (turn_of s n).key ≡ Some q → (n ≤ most_transitions) × (q < n)
   unfolding turn_of
-  fits_on (Each k all) f on = let d = divided f.0 f.1 in (omega arith, rw d.rest ((div-lt_iff_lt-mul d.others).1 (omega arith)))
-  fits_on All f on = let apart = eqb-false n 0 (not-true (eqb n 0) on) in (f.0, omega arith)
+  fits_on (Each k all) f {q} on =
+      let d = divided f.0 f.1 in
+      let e : k / product_of ns ≡ q = rw d.rest at (ap (λ o. unwrap_or o 0) on) in
+      (omega arith, rw (← e) ((div-lt_iff_lt-mul d.others).1 (omega arith)))
+  fits_on All f on = (f.0, first_on on)
   fits_on (One k) f on = one_on k (ltb k n) refl f on
-  fits_on Done f on = absurd (false≢true on)
+  fits_on Done f on = absurd (false≢true (ap is_some on))

@@ -1,31 +1,32 @@
 -- The loop of `keep` over the expressions under a row: what is left for those still to come, together with the bytes set so far,
 -- gives what all of them give from the beginning.
-use Prim.Native.Nat.{ℕ, ◌-◌, ◌<◌, ◌≤◌}
+use Prim.Native.Nat.{ℕ, ◌+◌, ◌-◌, ◌<◌, ◌≤◌}
 use native.Mathlib.Omega.{arith}
 use mathlib.Core.Path.{◌≡◌, refl, sym, ap, subst, ◌∙◌}
-use mathlib.Core.Bool.{true, false}
-use mathlib.Core.List.{List, ◌∷◌}
+use mathlib.Core.Bool.{Bool}
+use mathlib.Core.List.{List, [], ◌∷◌}
 use lib.ListN.{length, set}
-use borrow.Author.Tests.{eq-eqb}
-use Rattle.paper.specs.Limits.{most_rows, most_transitions}
+use Rattle.std.specs.Prelude.{None, Some}
+use Rattle.paper.specs.Limits.{most_rows}
 use Rattle.paper.specs.declared.Label.{Label}
 use Rattle.paper.specs.Formula.{ℓ}
 use Rattle.paper.specs.Inside.Structure.Kept.{kept_at}
-use Rattle.rows.specs.Rows.{kind_of, end_of, meets}
+use Rattle.rows.specs.Rows.{kind_of, end_of, form_of}
+use Rattle.rows.specs.declared.form.Form.{Form}
 use Rattle.rows.specs.Formula.{formula_at}
 use Rattle.rows.specs.Inside.Walk.{expressions_at, first_at, Walkable}
 use Rattle.rows.proofs.Rules.{number_of}
-use Rattle.rows.proofs.Walks.{Along, along_under, along-on, along-next}
+use Rattle.rows.proofs.Walks.{IsJoin, join-kind, Along, along_under, along-on, along-next}
 use Rattle.keys.specs.declared.Distinct.{Distinct}
 use Rattle.marks.specs.Inside.Chosen.{Marked}
 use Rattle.keys.specs.Inside.Keys.{total, keys_at}
 use Rattle.keys.proofs.KeysUnder.{totals_from, numbers-step}
 use Rattle.transitions.specs.declared.Shares.{Shares}
-use Rattle.transitions.specs.declared.Shares.TheVariants.{Each, All, One, Done}
+use Rattle.transitions.specs.declared.Shares.TheVariants.{Done}
 use Rattle.transitions.specs.declared.Turn.{Turn}
-use Rattle.transitions.specs.Inside.Kept.{CanTake, turn_of, shares_of, to_come, marked_by, Keepable, KeptAfter}
+use Rattle.transitions.specs.Inside.Kept.{CanTake, turn_of, goes_by_each, shares_of, marked_by, Keepable, KeptAfter}
 use Rattle.transitions.proofs.Sharing.{Fits, fits-take, fits_next, fits_on}
-use Rattle.transitions.proofs.KeptRows.{kept-none, kept-lone, each_under, kept_in, kept_from, kept_step, kept-end, kept-to-come, fits_under, kept_under}
+use Rattle.transitions.proofs.KeptRows.{kept-none, IsLeaf, kept-lone, each-kind, kept_in, kept_from, kept_step, kept-end, none_after, fits_under, kept_under}
 use Rattle.transitions.proofs.MarkedBytes.{marked_append}
 
 -- a leaf's walk sets its own byte
@@ -34,9 +35,10 @@ module _ {rows marks : List ℕ} {left i k : ℕ} {out : List ℕ} where
   unfolding marked_by
   set-with-none none = record { bytes_are = λ A marked reads. rw (kept-none A rows reads left i k none) }
 
-  pub set-alone : {kind : ℕ} → (left ≡ 0 → ⊥) → kind ≡ kind_of rows i → kind < 3 → KeptAfter rows marks left i k out (set out i 1)
+  pub set-alone : {f : Form} → (left ≡ 0 → ⊥) → f ≡ form_of (kind_of rows i) → IsLeaf f
+      → KeptAfter rows marks left i k out (set out i 1)
   unfolding marked_by
-  set-alone {kind} deep e low = record { bytes_are = λ A marked reads. rw (kept-lone A rows reads left i k deep kind e low) }
+  set-alone deep e leaf = record { bytes_are = λ A marked reads. rw (kept-lone A rows reads left i k deep e leaf) }
 
 -- The bytes after a child's turn: where it takes part, those of the labels that its key keeps are set, else they stay.
 pub record Turned (rows marks : List ℕ) (left : ℕ) (u : Turn) (i : ℕ) (before after : List ℕ) : Type 0 where
@@ -44,82 +46,63 @@ pub record Turned (rows marks : List ℕ) (left : ℕ) (u : Turn) (i : ℕ) (bef
   pub bytes_are : (A : List Label) → Marked A marks → (reads : List ℕ) → after ≡ marked_by (kept_in A rows marks reads left u i) before
 
 module _ {rows marks : List ℕ} {left i : ℕ} {u : Turn} {out after : List ℕ} (now : after ≡ out) where
-  pub turned_on : {before : List ℕ} → u.on ≡ true → length out ≡ length before → KeptAfter rows marks left i u.key before out
+  pub turned_on : {before : List ℕ} {k : ℕ} → u.key ≡ Some k → length out ≡ length before → KeptAfter rows marks left i k before out
       → Turned rows marks left u i before after
   turned_on on same q = rw now (record { same_length = same; bytes_are = λ A marked reads. rw on (q.bytes_are A marked reads) })
 
-  pub turned-off : u.on ≡ false → Turned rows marks left u i out after
+  pub turned-off : u.key ≡ None → Turned rows marks left u i out after
   unfolding marked_by
   turned-off off = rw now (record { same_length = refl; bytes_are = λ A marked reads. rw off })
 
--- The loop began with bytes out₀, shares s₀ and m₀ expressions from label c₀ on; now it stands at out, s, m and c.
-pub record Taking (rows marks : List ℕ) (#N left : ℕ) (out₀ : List ℕ) (s₀ : Shares) (c₀ : Label) (m₀ : ℕ) (out : List ℕ) (s : Shares) (c : Label) (m : ℕ)
-    : Type 0 where
+-- The loop over the expressions under row i, for key k, began with bytes out₀. Now j of them are passed, the next stands at label c, and
+-- those still to come take part by s: with what they keep set too, the bytes are those of key k.
+pub record Taking (rows marks : List ℕ) (#N left i k : ℕ) (out₀ out : List ℕ) (s : Shares) (j : ℕ) (c : Label) : Type 0 where
   pub same_length : length out ≡ length out₀
-  pub along : Along rows #N m c.0
-  pub fits : Fits s (totals_from rows marks (left - 1) m c.0)
+  pub along : Along rows #N (expressions_at rows i - j) c.0
+  pub fits : Fits s (totals_from rows marks (left - 1) (expressions_at rows i - j) c.0)
   pub marks_all : (A : List Label) → Marked A marks → (reads : List ℕ)
-      → marked_by (kept_from A rows marks reads (left - 1) s m c.0) out ≡ marked_by (kept_from A rows marks reads (left - 1) s₀ m₀ c₀.0) out₀
+      → marked_by (kept_from A rows marks reads (left - 1) s (expressions_at rows i - j) c.0) out ≡ marked_by (kept_at A (formula_at rows reads left i) k) out₀
 
--- at row i, whose kind word is that of a join, for key k
-module _ {rows marks : List ℕ} {#N i left k kind m₀ : ℕ} {c₀ : Label} {s₀ : Shares} {out₀ : List ℕ} {own : Distinct}
-    (e : kind ≡ kind_of rows i) (join : 2 < kind) (deep : left ≡ 0 → ⊥) (p : Keepable rows marks out₀ #N i left own k)
-    (s-is : s₀ ≡ shares_of (each_under kind) own k) (m-is : m₀ ≡ expressions_at rows i) (c-is : c₀ ≡ ℓ (first_at rows i)) where
-  few : total (keys_at rows marks left i) ≤ most_transitions
-  few = rw p.own_are at p.few
+module _ {rows marks : List ℕ} {#N left i k : ℕ} {out₀ : List ℕ} where
+  -- it holds as the loop begins, at a join
+  pub taking-begins : {f : Form} {each : Bool} {s : Shares} {c : Label} {own : Distinct} → f ≡ form_of (kind_of rows i) → IsJoin f → (left ≡ 0 → ⊥)
+      → Keepable rows marks out₀ #N i left own k → each ≡ goes_by_each f → s ≡ shares_of each own k → c ≡ ℓ (first_at rows i)
+      → Taking rows marks #N left i k out₀ out₀ s 0 c
+  taking-begins e join deep p each-is s-is c-is =
+      let all : expressions_at rows i - 0 ≡ expressions_at rows i = omega arith in
+      let high = join-kind e join in
+      let few = rw p.own_are at p.few in
+      let among = rw p.own_are at p.among in
+      record {
+        same_length = refl;
+        along = rw (all, number_of c-is) (along_under p.walkable);
+        fits = rw (all, number_of c-is, s-is, p.own_are, each-is, e, each-kind (kind_of rows i)) (fits_under marks left k p.walkable deep high few among);
+        marks_all = λ A marked reads.
+            ap (λ ls. marked_by ls out₀) (rw (all, number_of c-is, s-is, p.own_are, each-is, e, each-kind (kind_of rows i))
+            (sym (kept_under marks left k p.walkable deep high few among A marked reads)));
+      }
 
-  among : k < total (keys_at rows marks left i)
-  among = rw p.own_are at p.among
+  module _ {out : List ℕ} {s : Shares} {j : ℕ} {c : Label} (t : Taking rows marks #N left i k out₀ out s j c) where
+    -- where no expression is left, or none of those that are takes part, the bytes are those of key k
+    none-left : ((A : List Label) (reads : List ℕ) → kept_from A rows marks reads (left - 1) s (expressions_at rows i - j) c.0 ≡ [])
+        → KeptAfter rows marks left i k out₀ out
+    unfolding marked_by
+    none-left none = record { bytes_are = λ A marked reads. ap (λ ls. marked_by ls out) (sym (none A reads)) ∙ t.marks_all A marked reads }
 
-  -- it holds as the loop begins
-  pub taking-begins : Taking rows marks #N left out₀ s₀ c₀ m₀ out₀ s₀ c₀ m₀
-  taking-begins = record {
-    same_length = refl;
-    along = rw (m-is, number_of c-is) (along_under p.walkable);
-    fits = rw (m-is, number_of c-is, s-is, p.own_are, e) (fits_under marks left k p.walkable deep (omega arith) few among);
-    marks_all = λ A marked reads. refl;
-  }
+    pub taking-ends : expressions_at rows i ≤ j → KeptAfter rows marks left i k out₀ out
+    taking-ends done = none-left (λ A reads. kept-end A rows marks reads (left - 1) s (expressions_at rows i - j) c.0 (omega arith))
 
-  -- with no expression left, the bytes are those of key k
-  pub taking-ends : {out : List ℕ} {s : Shares} {c : Label} {m : ℕ} → Taking rows marks #N left out₀ s₀ c₀ m₀ out s c m → m ≤ 0
-      → KeptAfter rows marks left i k out₀ out
-  unfolding marked_by
-  taking-ends {out} {s} {c} {m} t done = record {
-    bytes_are = λ A marked reads.
-        ap (λ ls. marked_by ls out) (sym (kept-end A rows marks reads (left - 1) s m c.0 (omega arith))) ∙ t.marks_all A marked reads
-        ∙ ap (λ ls. marked_by ls out₀) (sym (all A marked reads));
-  }
-    where
-      all : (A : List Label) → Marked A marks → (reads : List ℕ)
-          → kept_at A (formula_at rows reads left i) k ≡ kept_from A rows marks reads (left - 1) s₀ m₀ c₀.0
-      all A marked reads =
-          rw (m-is, number_of c-is, s-is, p.own_are, e)
-          (kept_under marks left k p.walkable deep (omega arith) few among A marked reads)
+    pub taking-stops : s ≡ Done → KeptAfter rows marks left i k out₀ out
+    taking-stops e = none-left (λ A reads. rw e (none_after A rows marks reads (left - 1) (expressions_at rows i - j) c.0))
 
--- of those still to come no more are walked to
-module _ {rows : List ℕ} {#N : ℕ} where
-  along-to-come : (s : Shares) {m i : ℕ} → i ≤ #N → Along rows #N m i → Along rows #N (to_come s m) i
-  unfolding meets
-  along-to-come (Each k all) h a = a
-  along-to-come All h a = a
-  along-to-come (One k) h a = a
-  along-to-come Done {i = i} h a = record { shaped = a.shaped; stop = i; within = h; meet = eq-eqb i i refl }
+module _ {rows marks : List ℕ} {#N left i k : ℕ} {out₀ out : List ℕ} {s : Shares} {j : ℕ} {c : Label}
+    (t : Taking rows marks #N left i k out₀ out s j c) (more : j < expressions_at rows i) where
+  abbrev m : ℕ
+  m = expressions_at rows i - j
 
-fits-to-come : (rows marks : List ℕ) (left : ℕ) (s : Shares) (m i : ℕ) → Fits s (totals_from rows marks left m i)
-    → Fits s (totals_from rows marks left (to_come s m) i)
-fits-to-come rows marks left (Each k all) m i f = f
-fits-to-come rows marks left All m i f = f
-fits-to-come rows marks left (One k) m i f = f
-fits-to-come rows marks left Done m i f = tt
+  some : 0 < m
+  some = omega arith
 
-pub to-come-most : (s : Shares) (m : ℕ) → to_come s m ≤ m
-to-come-most (Each k all) m = omega arith
-to-come-most All m = omega arith
-to-come-most (One k) m = omega arith
-to-come-most Done m = omega arith
-
-module _ {rows marks : List ℕ} {#N left : ℕ} {out₀ : List ℕ} {s₀ : Shares} {c₀ : Label} {m₀ : ℕ} {out : List ℕ} {s : Shares} {c : Label} {m : ℕ}
-    (t : Taking rows marks #N left out₀ s₀ c₀ m₀ out s c m) (some : 0 < m) where
   -- in a turn the walk can go on at c
   pub taking-on : Walkable rows #N c.0
   taking-on = along-on t.along some
@@ -146,36 +129,32 @@ module _ {rows marks : List ℕ} {#N left : ℕ} {out₀ : List ℕ} {s₀ : Sha
       turn-here = u-is ∙ ap (turn_of s) n-is
 
       -- where it takes part, it is asked for a key of its own
-      pub taking-asks : u.on ≡ true → #N ≤ length out₀ → length marks ≡ most_rows → Keepable rows marks out #N c.0 (left - 1) keys u.key
+      pub taking-asks : {q : ℕ} → u.key ≡ Some q → #N ≤ length out₀ → length marks ≡ most_rows → Keepable rows marks out #N c.0 (left - 1) keys q
       taking-asks on room size = record {
         walkable = taking-on;
         room = let e = t.same_length in omega arith;
         size = size;
         own_are = keys-are;
-        few = rw keys-are (fits_on own others s fits-here (sym (ap (λ u. u.on) turn-here) ∙ on)).0;
-        among = rw (keys-are, turn-here) (fits_on own others s fits-here (sym (ap (λ u. u.on) turn-here) ∙ on)).1;
+        few = rw keys-are (fits_on own others s fits-here (sym (ap (λ u. u.key) turn-here) ∙ on)).0;
+        among = rw keys-are (fits_on own others s fits-here (sym (ap (λ u. u.key) turn-here) ∙ on)).1;
       }
 
       -- and after it, with what it keeps set and c moved to its end, it holds again
-      pub taking-turns : {out' : List ℕ} {s' : Shares} {c' : Label} {m' : ℕ}
-          → Turned rows marks (left - 1) u c.0 out out' → s' ≡ u.next → c' ≡ ℓ (end_of rows c.0) → m' ≡ to_come s' (m - 1)
-          → Taking rows marks #N left out₀ s₀ c₀ m₀ out' s' c' m'
-      taking-turns {out'} {s'} {c'} {m'} kept s-is c-is m-is = record {
-        same_length = kept.same_length ∙ t.same_length;
-        along = let w = taking-on in
-            rw (number_of c-is, m-is) (along-to-come s' (w.shaped.within c.0 w.here) (along-next t.along some));
-        fits = rw (number_of c-is, m-is) (fits-to-come rows marks (left - 1) s' (m - 1) (end_of rows c.0) (rw next-is (fits_next own others s fits-here)));
-        marks_all = again;
-      }
-        where
-          next-is : s' ≡ (turn_of s own).next
-          next-is = s-is ∙ ap (λ u. u.next) turn-here
+      module _ {out' : List ℕ} (kept : Turned rows marks (left - 1) u c.0 out out') where
+        next-is : u.next ≡ (turn_of s own).next
+        next-is = ap (λ u. u.next) turn-here
 
-          again : (A : List Label) → Marked A marks → (reads : List ℕ)
-              → marked_by (kept_from A rows marks reads (left - 1) s' m' c'.0) out' ≡ marked_by (kept_from A rows marks reads (left - 1) s₀ m₀ c₀.0) out₀
-          again A marked reads =
-              let turned = kept.bytes_are A marked reads ∙ ap (λ u. marked_by (kept_in A rows marks reads (left - 1) u c.0) out) turn-here in
-              let rest = kept_from A rows marks reads (left - 1) (turn_of s own).next (m - 1) (end_of rows c.0) in
-              rw (number_of c-is, m-is, kept-to-come A rows marks reads (left - 1) s' (m - 1) (end_of rows c.0), next-is, turned)
-              (sym (marked_append (kept_in A rows marks reads (left - 1) (turn_of s own) c.0) rest out)
-              ∙ ap (λ ls. marked_by ls out) (sym (kept_step A rows marks reads (left - 1) s m c.0 some)) ∙ t.marks_all A marked reads)
+        pub taking-turns : {c' : Label} → c' ≡ ℓ (end_of rows c.0) → Taking rows marks #N left i k out₀ out' u.next (j + 1) c'
+        taking-turns c-is =
+            let one_less : expressions_at rows i - (j + 1) ≡ m - 1 = omega arith in
+            record {
+              same_length = kept.same_length ∙ t.same_length;
+              along = rw (one_less, number_of c-is) (along-next t.along some);
+              fits = rw (one_less, number_of c-is, next-is) (fits_next own others s fits-here);
+              marks_all = λ A marked reads.
+                  let turned = kept.bytes_are A marked reads ∙ ap (λ u. marked_by (kept_in A rows marks reads (left - 1) u c.0) out) turn-here in
+                  let rest = kept_from A rows marks reads (left - 1) (turn_of s own).next (m - 1) (end_of rows c.0) in
+                  rw (one_less, number_of c-is, next-is, turned)
+                  (sym (marked_append (kept_in A rows marks reads (left - 1) (turn_of s own) c.0) rest out)
+                  ∙ ap (λ ls. marked_by ls out) (sym (kept_step A rows marks reads (left - 1) s m c.0 some)) ∙ t.marks_all A marked reads);
+            }

@@ -1,18 +1,19 @@
 // The labels that transition k keeps: quotient and remainder at a conjunction, whose first child is the most significant;
 // offset at a disjunction or an IF; all children where the only key is the empty one.
-ghost use Rattle.std.specs.Prelude.{◌≡◌, true, ◌++◌, ◌≤◌, ◌<◌, length, drop, replicate};
-ghost use Rattle.keys.specs.Inside.Keys.{limit};
-ghost use Rattle.transitions.specs.Inside.Kept.{CanTake, turn_of, shares_of, to_come, Keepable, KeptAfter, MarkedKept};
+ghost use Rattle.std.specs.Prelude.{◌≡◌, ◌++◌, ◌≤◌, ◌<◌, length, drop, replicate};
+ghost use Rattle.transitions.specs.Inside.Kept.{CanTake, turn_of, goes_by_each, shares_of, Keepable, KeptAfter, MarkedKept};
 ghost use Rattle.paper.specs.Limits.{most_depth};
 
 use crate::{Shares, Turn};
 use keys::{Distinct, keys_of, total_of};
 use paper::Label;
 use paper::limits::{MOST_DEPTH, MOST_ROWS};
+use rows::end_of;
+use rows::form::{Form, form_of};
 use rows::walk::{expressions_of, first_of};
-use rows::{end_of, kind_of};
 
 // The turn of a child that has `own` keys.
+#[tactic(auto, unfolding(crate::specs::Inside::Kept::turn_of))]
 fn turn_of(s: Shares, own: u64) -> Turn
     requires { CanTake s own }
     ensures { result ≡ turn_of s own }
@@ -21,41 +22,43 @@ fn turn_of(s: Shares, own: u64) -> Turn
         Shares::Each(k, all) => {
             let rest = all / own;
             Turn {
-                on: true,
-                key: k / rest,
+                key: Some(k / rest),
                 next: Shares::Each(k % rest, rest),
             }
         }
         Shares::All => Turn {
-            on: own != 0,
-            key: 0,
+            key: (own != 0).then_some(0),
             next: Shares::All,
         },
         Shares::One(k) => {
             if k < own {
                 return Turn {
-                    on: true,
-                    key: k,
+                    key: Some(k),
                     next: Shares::Done,
                 };
             }
             Turn {
-                on: false,
-                key: 0,
+                key: None,
                 next: Shares::One(k - own),
             }
         }
         Shares::Done => Turn {
-            on: false,
-            key: 0,
+            key: None,
             next: Shares::Done,
         },
     }
 }
 
-// How the children of a join take part in its key k: `each` for a conjunction, and for an exists, which has one child.
+// Whether the children of a join go by quotient and remainder: those of a conjunction, and the one of an exists.
+fn goes_by_each(form: Form) -> bool
+    ensures { result ≡ goes_by_each form }
+{
+    matches!(form, Form::Conjunction | Form::Exists)
+}
+
+// How the children of a join take part in its key k.
+#[tactic(auto, unfolding(crate::specs::Inside::Kept::shares_of))]
 fn shares_of(each: bool, keys: Distinct, k: u64) -> Shares
-    requires { keys.more ≤ limit }
     ensures { result ≡ shares_of each keys k }
 {
     if each {
@@ -65,18 +68,6 @@ fn shares_of(each: bool, keys: Distinct, k: u64) -> Shares
         return Shares::All;
     }
     Shares::One(k)
-}
-
-// How many of m children still to come there are to walk to: none where none of them takes part.
-fn to_come(s: Shares, m: u16) -> u16
-    ensures { result ≡ to_come s m }
-{
-    match s {
-        Shares::Each(_, _) => m,
-        Shares::All => m,
-        Shares::One(_) => m,
-        Shares::Done => 0,
-    }
 }
 
 // Sets the bytes of the labels that key k of the formula at a row keeps, the formula being `left` levels deep at most and `own`
@@ -94,33 +85,33 @@ pub fn keep(
     requires { Keepable rows.now marks.now out.old n at.0 left own k }
     ensures { KeptAfter rows.now marks.now left at.0 k out.old out.new }
 {
-    let i = at.0 as usize;
+    let i = usize::from(at.0);
     if left == 0 {
         out[i] = 1;
         return;
     }
-    let kind = kind_of(rows, at);
-    match kind {
-        0..=2 => {
+    let form = form_of(rows, at);
+    match form {
+        Form::False | Form::Star | Form::Candidate | Form::Unknown => {
             out[i] = 1;
         }
-        3..=6 => {
-            let each = (kind == 3) | (kind == 5);
-            let mut s = shares_of(each, own, k);
+        Form::Conjunction | Form::Disjunction | Form::Exists | Form::If => {
+            let mut s = shares_of(goes_by_each(form), own, k);
             let mut c = first_of(rows, at);
-            let mut m = expressions_of(rows, at);
-            while 0 < m {
+            for _ in 0..expressions_of(rows, at) {
                 let keys = keys_of(rows, marks, n, c, left - 1);
-                let t = turn_of(s, total_of(keys));
-                if t.on {
-                    keep(rows, marks, n, c, left - 1, keys, t.key, out);
+                let turn = turn_of(s, total_of(keys));
+                if let Some(key) = turn.key {
+                    keep(rows, marks, n, c, left - 1, keys, key, out);
                 }
-                s = t.next;
+                // none of those still to come takes part
+                if let Shares::Done = turn.next {
+                    return;
+                }
+                s = turn.next;
                 c = end_of(rows, c);
-                m = to_come(s, m - 1);
             }
         }
-        7..=65535 => {}
     }
 }
 
@@ -129,12 +120,7 @@ fn clear(out: &mut [u8], n: u16)
     requires { n ≤ length out.old }
     ensures { out.new ≡ replicate n 0 ++ drop n out.old }
 {
-    let end = n as usize;
-    let mut i = 0;
-    while i < end {
-        out[i] = 0;
-        i += 1;
-    }
+    out[..usize::from(n)].fill(0);
 }
 
 // Fills the first n bytes with the marks of transition k: 1 for a kept label, else 0. The bytes after them stay. `own` are the keys

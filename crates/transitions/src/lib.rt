@@ -17,10 +17,9 @@ pub enum Shares {
     Done,
 }
 
-// Whether a child takes part and in which of its keys, and how those after it do.
+// The key of its own in which a child takes part, if it does, and how those after it do.
 #[derive(Clone, Copy)]
 pub struct Turn {
-    pub on: bool,
-    pub key: u64,
+    pub key: Option<u64>,
     pub next: Shares,
 }

@@ -1,7 +1,10 @@
 -- What the branches of a formula have of 64 variables at a time (refusals 11 and 12): the cover of one variable, bit by bit.
 -- Variable 64 * block + b is bit b of block `block`.
-use Rattle.std.specs.Prelude.{ℕ, ◌+◌, ◌/◌, ◌%◌, ◌^◌, Bool, true, false, cond, not, ◌&&◌, ◌||◌, List, [], ◌∷◌, eqb, ltb}
+use Rattle.std.specs.Prelude.{ℕ, ◌+◌, ◌/◌, ◌%◌, ◌^◌, Bool, true, false, cond, not, ◌&&◌, List, [], ◌∷◌, eqb, ltb}
 use Rattle.std.specs.Int.Bits.{bit_and, bit_or}
+use Rattle.std.specs.Prelude.{Option, None, Some, Result, Ok, Err}
+use Rattle.std.specs.Option.{unwrap_or}
+use Rattle.paper.specs.declared.Refusal.{Refusal}
 use Rattle.paper.specs.declared.refusals.Fault.TheVariants.{VariableMissed, VariableTwice}
 use Rattle.paper.specs.Refusals.{refusal}
 use Rattle.paper.specs.Limits.{most_depth}
@@ -12,44 +15,48 @@ use Rattle.paper.specs.Inside.Structure.Fold.{Fold}
 use Rattle.entries.specs.First.{first}
 use Rattle.rows.specs.Inside.Walk.{value_at}
 use Rattle.cover.specs.declared.Masks.{Masks}
-use Rattle.cover.specs.declared.Covering.{Covering}
-use Rattle.cover.specs.declared.Covering.TheVariants.{Missed, Doubled, Covered}
+use Rattle.cover.specs.declared.Uncovered.{Uncovered}
+use Rattle.cover.specs.declared.Uncovered.TheVariants.{Missed, Doubled}
 use Rattle.marks.specs.Marks.{is_marked}
 
 abbrev pub all_bits : ℕ
 all_bits = 18446744073709551615
 
-abbrev pub as_masks : Bool → ℕ → ℕ → ℕ → Masks
-as_masks l a e t = record { live = l; always = a; ever = e; twice = t }
+abbrev pub as_masks : ℕ → ℕ → ℕ → Masks
+as_masks a e t = record { always = a; ever = e; twice = t }
+
+-- what there is where there is no branch: each of none has all
+abbrev pub no_branch : Masks
+no_branch = as_masks all_bits 0 0
 
 -- one branch that has a chosen candidate of the variables of a mask
-abbrev pub leaf_masks : ℕ → Masks
-leaf_masks mask = as_masks true mask mask 0
+abbrev pub leaf_masks : ℕ → Option Masks
+leaf_masks mask = Some (as_masks mask mask 0)
 
 -- one branch with no chosen label
-abbrev pub nothing_chosen : Masks
+abbrev pub nothing_chosen : Option Masks
 nothing_chosen = leaf_masks 0
 
 -- a conjunction starts from one branch with nothing on it, any other join from no branch
-unfoldable pub unit_masks : Bool → Masks
-unit_masks true = as_masks true 0 0 0
-unit_masks false = as_masks false all_bits 0 0
+unfoldable pub unit_masks : Bool → Option Masks
+unit_masks true = nothing_chosen
+unit_masks false = None
 
-abbrev pub both_masks : Bool → Bool → Masks → Masks → Masks
-both_masks true true a b =
-    as_masks true (bit_or a.always b.always) (bit_or a.ever b.ever) (bit_or (bit_or a.twice b.twice) (bit_and a.ever b.ever))
-both_masks true false a b = b
-both_masks false live a b = a
-
-unfoldable pub join_masks : Bool → Masks → Masks → Masks
-join_masks true a b = both_masks a.live b.live a b
-join_masks false a b = as_masks (a.live || b.live) (bit_and a.always b.always) (bit_or a.ever b.ever) (bit_or a.twice b.twice)
+-- where one side of a conjunction has no branch, the conjunction has none
+unfoldable pub join_masks : Bool → Option Masks → Option Masks → Option Masks
+join_masks true None b = None
+join_masks true (Some a) None = None
+join_masks true (Some a) (Some b) =
+    Some (as_masks (bit_or a.always b.always) (bit_or a.ever b.ever) (bit_or (bit_or a.twice b.twice) (bit_and a.ever b.ever)))
+join_masks false None b = b
+join_masks false (Some a) None = Some a
+join_masks false (Some a) (Some b) = Some (as_masks (bit_and a.always b.always) (bit_or a.ever b.ever) (bit_or a.twice b.twice))
 
 -- the bit of a chosen candidate whose variable is of the block, else no bit
 unfoldable pub mask_of : List ℕ → ℕ → ℕ → ℕ → ℕ
 mask_of marks block l v = cond (eqb (v / 64) block && is_marked marks l) (2 ^ (v % 64)) 0
 
-abbrev pub masks_fold : List ℕ → ℕ → Fold Masks
+abbrev pub masks_fold : List ℕ → ℕ → Fold (Option Masks)
 masks_fold marks block = record {
   at_false = λ l. nothing_chosen;
   at_test = λ l. nothing_chosen;
@@ -59,8 +66,12 @@ masks_fold marks block = record {
 }
 
 -- the masks of the formula that rows write, for the variables of a block
-abbrev pub masks_at : List ℕ → List ℕ → ℕ → ℕ → ℕ → Masks
+abbrev pub masks_at : List ℕ → List ℕ → ℕ → ℕ → ℕ → Option Masks
 masks_at rows marks block left i = value_at (masks_fold marks block) rows left i
+
+-- those of the whole formula
+abbrev pub masks_in : List ℕ → List ℕ → ℕ → Masks
+masks_in rows marks block = unwrap_or (masks_at rows marks block most_depth 0) no_branch
 
 -- bit b of a word
 unfoldable pub bit_at : ℕ → ℕ → Bool
@@ -68,14 +79,18 @@ bit_at w b = eqb (w / 2 ^ b % 2) 1
 
 -- some branch has no chosen candidate of variable v; some branch has two or more
 unfoldable pub is_missed : List ℕ → List ℕ → ℕ → Bool
-is_missed rows marks v = not (bit_at (masks_at rows marks (v / 64) most_depth 0).always (v % 64))
+is_missed rows marks v = not (bit_at (masks_in rows marks (v / 64)).always (v % 64))
 
 unfoldable pub is_doubled : List ℕ → List ℕ → ℕ → Bool
-is_doubled rows marks v = bit_at (masks_at rows marks (v / 64) most_depth 0).twice (v % 64)
+is_doubled rows marks v = bit_at (masks_in rows marks (v / 64)).twice (v % 64)
+
+-- whether each variable has exactly one chosen label on each branch
+abbrev pub Covering : Type 0
+Covering = Result (Unit {0}) Uncovered
 
 -- the lowest variable that is missed, else the lowest that is doubled
 abbrev pub lowest_of : ℕ → ℕ → ℕ → Covering
-lowest_of #V missed doubled = cond (ltb missed #V) (Missed (𝓋 missed)) (cond (ltb doubled #V) (Doubled (𝓋 doubled)) Covered)
+lowest_of #V missed doubled = cond (ltb missed #V) (Err (Missed (𝓋 missed))) (cond (ltb doubled #V) (Err (Doubled (𝓋 doubled))) (Ok tt))
 
 unfoldable pub covering_of : List ℕ → List ℕ → ℕ → Covering
 covering_of rows marks #V = lowest_of #V (first (is_missed rows marks) #V) (first (is_doubled rows marks) #V)
@@ -86,12 +101,16 @@ further low v found = cond (ltb low v) low (found + v)
 
 -- what the variables that are missed and those that are doubled give: the first of either
 abbrev pub covering_by : List Variable → List Variable → Covering
-covering_by [] [] = Covered
-covering_by [] (v ∷ others) = Doubled v
-covering_by (v ∷ others) doubled = Missed v
+covering_by [] [] = Ok tt
+covering_by [] (v ∷ others) = Err (Doubled v)
+covering_by (v ∷ others) doubled = Err (Missed v)
+
+-- the refusal of a variable that is not covered: 11 or 12, at the variable
+abbrev pub refusal_of : Uncovered → Refusal
+refusal_of (Missed v) = refusal VariableMissed v.0
+refusal_of (Doubled v) = refusal VariableTwice v.0
 
 -- the refusal that a covering gives, or else what follows
 abbrev pub judgement_of : Covering → Judgement → Judgement
-judgement_of (Missed v) next = refused (refusal VariableMissed v.0)
-judgement_of (Doubled v) next = refused (refusal VariableTwice v.0)
-judgement_of Covered next = next
+judgement_of (Err x) next = refused (refusal_of x)
+judgement_of (Ok x) next = next

@@ -1,6 +1,6 @@
 -- What a walk over the rows of a formula goes by: the expressions right under a row, and the value that a fold of
 -- formulas has at a row and at the rest of a join's children (document 01, "Nested rows are walked by recursion").
-use Rattle.std.specs.Prelude.{ℕ, zero, suc, ◌+◌, ◌*◌, ◌<◌, ◌≤◌, Bool, true, List, [], ◌≡◌, length}
+use Rattle.std.specs.Prelude.{ℕ, zero, suc, ◌+◌, ◌*◌, ◌<◌, ◌≤◌, Bool, true, false, List, [], ◌≡◌, length}
 use Rattle.paper.specs.Limits.{most_rows}
 use Rattle.paper.specs.Formula.{Formula}
 use Rattle.paper.specs.Inside.Structure.Fold.{Fold, fold_of}
@@ -30,6 +30,17 @@ first_under form.Disjunction i = i + 1
 first_under form.Exists i = i + 2
 first_under form.If i = i + 2
 first_under form.Unknown i = i + 1
+
+-- a conjunction is joined by `true`, every other join by `false`
+abbrev pub is_conjunction : Form → Bool
+is_conjunction form.False = false
+is_conjunction form.Star = false
+is_conjunction form.Candidate = false
+is_conjunction form.Conjunction = true
+is_conjunction form.Disjunction = false
+is_conjunction form.Exists = false
+is_conjunction form.If = false
+is_conjunction form.Unknown = false
 
 abbrev pub expressions_at : List ℕ → ℕ → ℕ
 expressions_at rows i = expressions (form_of (kind_of rows i)) (arg_of rows i)

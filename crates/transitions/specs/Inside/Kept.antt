@@ -1,10 +1,14 @@
 -- The labels that transition k keeps, child by child as code goes (document 01, "Key" and "Numbering"). `kept_at` of crate
 -- paper is what they are.
 use Rattle.std.specs.Prelude.{ℕ, ◌-◌, ◌/◌, ◌%◌, ◌<◌, ◌≤◌, Bool, true, false, cond, not, List, [], ◌∷◌, ◌++◌, map, ◌≡◌, eqb, ltb, length, set, drop}
+use Rattle.std.specs.Prelude.{Option, None, Some}
+use Rattle.std.specs.Bool.{then_some}
 use Rattle.paper.specs.Limits.{most_depth, most_rows, most_transitions}
 use Rattle.paper.specs.declared.Label.{Label}
 use Rattle.paper.specs.Formula.{has}
 use Rattle.paper.specs.Inside.Structure.Kept.{kept_at}
+use Rattle.rows.specs.declared.form.Form.{Form}
+use Rattle.rows.specs.declared.form.Form.TheVariants as form
 use Rattle.rows.specs.Formula.{formula_at}
 use Rattle.rows.specs.Inside.Walk.{Walkable}
 use Rattle.written.specs.Written.{labels_on}
@@ -15,20 +19,20 @@ use Rattle.transitions.specs.declared.Shares.{Shares}
 use Rattle.transitions.specs.declared.Shares.TheVariants.{Each, All, One, Done}
 use Rattle.transitions.specs.declared.Turn.{Turn}
 
-abbrev pub turn : Bool → ℕ → Shares → Turn
-turn on key next = record { on = on; key = key; next = next }
+abbrev pub turn : Option ℕ → Shares → Turn
+turn key next = record { key = key; next = next }
 
 -- where one child takes part: this one if k is one of its own keys, else one after it
 abbrev pub one_turn : Bool → ℕ → ℕ → Turn
-one_turn true k own = turn true k Done
-one_turn false k own = turn false 0 (One (k - own))
+one_turn true k own = turn (Some k) Done
+one_turn false k own = turn None (One (k - own))
 
 -- the turn of a child that has so many keys of its own
 unfoldable pub turn_of : Shares → ℕ → Turn
-turn_of (Each k all) own = turn true (k / (all / own)) (Each (k % (all / own)) (all / own))
-turn_of All own = turn (not (eqb own 0)) 0 All
+turn_of (Each k all) own = turn (Some (k / (all / own))) (Each (k % (all / own)) (all / own))
+turn_of All own = turn (then_some (not (eqb own 0)) 0) All
 turn_of (One k) own = one_turn (ltb k own) k own
-turn_of Done own = turn false 0 Done
+turn_of Done own = turn None Done
 
 -- where all take part by quotient and remainder, a child's keys divide those of all
 abbrev pub CanTake : Shares → ℕ → Type 0
@@ -37,17 +41,21 @@ CanTake All own = Unit {0}
 CanTake (One k) own = Unit {0}
 CanTake Done own = Unit {0}
 
+-- a conjunction's children go by quotient and remainder, and so does the one of an exists
+abbrev pub goes_by_each : Form → Bool
+goes_by_each form.False = false
+goes_by_each form.Star = false
+goes_by_each form.Candidate = false
+goes_by_each form.Conjunction = true
+goes_by_each form.Disjunction = false
+goes_by_each form.Exists = true
+goes_by_each form.If = false
+goes_by_each form.Unknown = false
+
 -- how the children of a join with these keys take part in its key k
 unfoldable pub shares_of : Bool → Distinct → ℕ → Shares
 shares_of true keys k = Each k (total keys)
 shares_of false keys k = cond keys.empty All (One k)
-
--- of m children still to come, how many there are to walk to: none where none of them takes part
-abbrev pub to_come : Shares → ℕ → ℕ
-to_come (Each k all) m = m
-to_come All m = m
-to_come (One k) m = m
-to_come Done m = 0
 
 -- the bytes of some labels set to 1, the others as they were
 unfoldable pub marked_by : List Label → List ℕ → List ℕ
