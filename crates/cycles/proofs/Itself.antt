@@ -11,7 +11,7 @@ use Rattle.paper.proofs.Bools.{not_so, same_answer}
 use Rattle.rows.specs.Rows.{from_of}
 use Rattle.rows.specs.Inside.Tree.{guard_of}
 use Rattle.net.specs.Inside.Prior.{is_frozen, share_branch_in, variable_of, prior}
-use Rattle.net.specs.Inside.Net.{guards_from}
+use Rattle.net.specs.declared.Net.{Net}
 use Rattle.fingers.specs.Inside.Followable.{Followable}
 use Rattle.fingers.specs.Inside.Spots.{stop_of, reads_any, IsSpot, pending, After}
 use Rattle.paper.proofs.Tests.{by, by-lt, never}
@@ -27,20 +27,20 @@ prior-itself rows reads chosen j =
     rw (eq-eqb l l refl) (and-true (is_frozen rows reads l (variable_of rows chosen j)))
 
 -- the star around a star: a spot, before all that it reads
-module _ (rows reads chosen net : List ℕ) (#N : ℕ) (ready : Followable rows reads chosen net #N) (s : ℕ)
+module _ (rows reads chosen : List ℕ) (net : Net) (#N : ℕ) (ready : Followable rows reads chosen net #N) (s : ℕ)
     (P : IsSpot rows chosen #N s (from_of rows s) (length chosen)) (h : 0 < s) where
   outer : After rows reads chosen #N s (stop_of rows s) (length chosen)
-      (get_or net (guards_from + s) 0) (from_of rows (get_or net (guards_from + s) 0)) (length chosen)
+      (get_or net.guards s 0) (from_of rows (get_or net.guards s 0)) (length chosen)
   outer = after-star rows reads chosen net #N ready s (stop_of rows s) (length chosen)
       (record { star = P.star; kind = P.kind; read = λ _. let z = stop in omega (arith, ready.few); index = omega arith }) h (omega arith) (omega arith)
     where
       stop : stop_of rows s ≤ length reads
       stop = stop-in rows reads chosen net #N ready s (from_of rows s) (length chosen) P h
 
-  pub outer-spot : IsSpot rows chosen #N (get_or net (guards_from + s) 0) (from_of rows (get_or net (guards_from + s) 0)) (length chosen)
+  pub outer-spot : IsSpot rows chosen #N (get_or net.guards s 0) (from_of rows (get_or net.guards s 0)) (length chosen)
   outer-spot = outer.spot
 
-  pub outer-lower : get_or net (guards_from + s) 0 < s
+  pub outer-lower : get_or net.guards s 0 < s
   outer-lower =
       rw (ready.netted.guards.guards s P.star)
       (by-lt 0 (guard_of rows s) (λ o. (the-guard rows reads #N ready.choice.tree s P.star o).below) (λ z. omega arith))
@@ -53,19 +53,19 @@ module _ (rows reads chosen : List ℕ) (j : ℕ) where
   pub below_none : (s : ℕ) → s ≤ 0 → below s ≡ false
   below_none s h = not_so _ (λ e. let z = some-star rows reads chosen s (from_of rows s) (length chosen) j e in omega arith)
 
-  module _ (net : List ℕ) (#N : ℕ) (ready : Followable rows reads chosen net #N) (s : ℕ)
+  module _ (net : Net) (#N : ℕ) (ready : Followable rows reads chosen net #N) (s : ℕ)
       (P : IsSpot rows chosen #N s (from_of rows s) (length chosen)) (h : 0 < s) where
     pub below-read : reads_any reads (from_of rows s) (stop_of rows s) (variable_of rows chosen j) ≡ true → below s ≡ true
     below-read e = joins rows reads chosen s (from_of rows s) (length chosen) j h (read_later e)
 
     pub below-outer : reads_any reads (from_of rows s) (stop_of rows s) (variable_of rows chosen j) ≡ false → j < length chosen
-        → below (get_or net (guards_from + s) 0) ≡ below s
+        → below (get_or net.guards s 0) ≡ below s
     below-outer e hj = same_answer _ _ (λ q. inner (parts rows reads chosen s (stop_of rows s) (length chosen) j (around-it.old j q)))
-        (λ q. by (below (get_or net (guards_from + s) 0)) (λ t. t)
+        (λ q. by (below (get_or net.guards s 0)) (λ t. t)
         (λ f. absurd (let z = (around-it.only j hj (past (parts rows reads chosen s (from_of rows s) (length chosen) j q)) f).0 in omega arith)))
       where
-        around-it : After rows reads chosen #N s (stop_of rows s) (length chosen) (get_or net (guards_from + s) 0)
-            (from_of rows (get_or net (guards_from + s) 0)) (length chosen)
+        around-it : After rows reads chosen #N s (stop_of rows s) (length chosen) (get_or net.guards s 0)
+            (from_of rows (get_or net.guards s 0)) (length chosen)
         around-it = outer rows reads chosen net #N ready s P h
 
         inner : Part rows reads chosen s (stop_of rows s) (length chosen) j → below s ≡ true
@@ -79,7 +79,7 @@ module _ (rows reads chosen : List ℕ) (j : ℕ) where
         past (read_around a) = joins rows reads chosen s (stop_of rows s) (length chosen) j h (read_around a)
 
   -- the own star of j
-  module _ (net : List ℕ) (#N : ℕ) (ready : Followable rows reads chosen net #N) (hj : j < length chosen) where
+  module _ (net : Net) (#N : ℕ) (ready : Followable rows reads chosen net #N) (hj : j < length chosen) where
     pub own-spot : IsSpot rows chosen #N (get_or chosen j 0 + 1) (from_of rows (get_or chosen j 0 + 1)) (length chosen)
     own-spot = record {
       star = own_in rows reads chosen #N net ready j hj;

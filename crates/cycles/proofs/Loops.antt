@@ -1,10 +1,15 @@
--- What the loops over the path keep.
+-- What the loops over the path keep, and what is looked for in the reads.
 use Prim.Native.Nat.{ℕ, ◌+◌, ◌-◌, ◌<◌, ◌≤◌, min}
 use native.Mathlib.Omega.{arith}
 use mathlib.Core.Path.{◌≡◌, refl, sym, subst, ap, ◌∙◌}
-use mathlib.Core.List.{List}
+use mathlib.Core.Bool.{◌||◌}
+use mathlib.Core.List.{List, [], ◌∷◌}
+use lib.Dec.{eqb}
 use lib.ListN.{length, get_or, set, length-set}
 use lib.Seq.{get_or-set_other}
+use borrow.Author.Tests.{eq-eqb, ne_eqb}
+use Rattle.std.specs.List.{list_any}
+use Rattle.paper.specs.Lists.{any_of}
 use Rattle.cycles.specs.Inside.Path.{Finished, Settled}
 use Rattle.paper.proofs.Tests.{by-eq, at_set}
 
@@ -41,3 +46,11 @@ merged-more bound top p t first l w = (
   omega (arith, w.1),
   λ k hk tk. by-eq k (t - 1) (λ e. subst (λ z. p < get_or bound z 0) (sym e) l) (λ d. w.2 k hk (omega arith)),
 )
+
+-- some number of a list is v, the two compared in either order
+pub some-is : (v : ℕ) (xs : List ℕ) → list_any (λ y. eqb y v) xs ≡ any_of (eqb v) xs
+some-is v [] = refl
+some-is v (x ∷ xs) = ap (λ t. t || list_any (λ y. eqb y v) xs) either ∙ ap (λ t. eqb v x || t) (some-is v xs)
+  where
+    either : eqb x v ≡ eqb v x
+    either = by-eq x v (λ e. eq-eqb x v e ∙ sym (eq-eqb v x (sym e))) (λ d. ne_eqb x v d ∙ sym (ne_eqb v x (λ e. d (sym e))))

@@ -11,7 +11,7 @@ use borrow.Author.Tests.{ne_eqb, eqb-false}
 use Rattle.paper.specs.Limits.{slots}
 use Rattle.paper.proofs.Bools.{not_so}
 use Rattle.entries.specs.First.{first}
-use Rattle.entries.proofs.First.{first_found, first-none}
+use Rattle.entries.proofs.First.{first_found, first-none, first-le, first-at, first_below}
 use Rattle.fingers.specs.Inside.Graph.{Graph, Next, free, outside, left_of, Started}
 use Rattle.cycles.specs.Inside.Path.{is_cyclic, Trail, step, Walked, Best, weight, Grown, Finished, Counted, Merged, Stepped, Explored, Selfless}
 use Rattle.paper.proofs.Tests.{by-eq, by-lt, never, at_set}
@@ -176,6 +176,14 @@ module _ (g : Graph) (root : ℕ) (mark stack bound finger : List ℕ) (P : Walk
   pub explore-not : (best : ℕ) → Best g mark best → (get_or mark root 0 ≡ 0 → ⊥) → Explored g root mark mark stack bound finger best
   unfolding free
   explore-not best B d = record { path = P; best_so_far = B; grown = λ i hi e. e; taken = ne_eqb (get_or mark root 0) 0 d }
+
+-- the first that is before itself is the lowest
+pub selfless : (g : Graph) (r : ℕ) → r ≡ first (λ i. g.before i i) g.size → Selfless g r
+selfless g r e = rw e (record {
+  to = first-le (λ i. g.before i i) g.size;
+  none = λ i h. first_below (λ i. g.before i i) g.size i h;
+  hit = first-at (λ i. g.before i i) g.size;
+})
 
 -- at the start, best is the lowest index that is before itself
 pub best-start : (g : Graph) (r : ℕ) → g.size < slots → Selfless g r → Best g (replicate slots 0) r

@@ -7,17 +7,26 @@
 ghost use Rattle.std.specs.Prelude.{◌≡◌, ℕ, ◌+◌, ◌-◌, ◌<◌, ◌≤◌, length, get_or};
 ghost use Rattle.net.specs.Inside.Prior.{prior};
 ghost use Rattle.cycles.specs.Inside.Cyclic.{lowest_on_cycle};
-ghost use Rattle.fingers.specs.Inside.Followable.{Followable};
+ghost use Rattle.fingers.specs.Inside.Follow.{graph};
 ghost use Rattle.cycles.specs.Inside.Path.{Walked, Best, Finished, Settled, Counted, Merged, Stepped, Explored, Selfless};
-ghost use Rattle.fingers.specs.Inside.Spots.{reads_any, graph_of};
+ghost use Rattle.fingers.specs.Inside.Spots.{reads_any};
 ghost use Rattle.paper.specs.Limits.{slots};
 
-use entries::{least, wide};
-use fingers::{seek, start, stop_of};
-use net::{NET_LENGTH, guard_of};
+use entries::first_where;
+use fingers::{Following, start, stop_of};
 use paper::limits::SLOTS;
 use paper::{Label, Variable};
 use rows::{arg_of, from_of};
+
+// The path: a mark for each index (0 is new, 1 is done, p + 2 is on the path at position p), the indices at its positions, the
+// position where each of its segments starts, and the finger of each index.
+#[derive(Drop)]
+struct Path {
+    mark: [u16; SLOTS],
+    stack: [u16; SLOTS],
+    bound: [u16; SLOTS],
+    finger: [u64; SLOTS],
+}
 
 // Where the walk stands: how many indices the path has, and how many segments; the position after the one worked on; and
 // the lowest index found on a cycle so far.
@@ -34,11 +43,8 @@ fn finish(mark: &mut [u16; SLOTS], stack: &[u16; SLOTS], from: usize, len: usize
     requires { (length mark.old ≡ slots) × (len ≤ slots) × (from ≤ len) × ((p : ℕ) → p < len → get_or stack.now p 0 < slots) }
     ensures { Finished mark.old stack.now from len mark.new }
 {
-    let mut p = from;
-    while p < len {
-        let i = wide(stack[p]);
-        mark[i] = 1;
-        p += 1;
+    for p in from..len {
+        mark[usize::from(stack[p])] = 1;
     }
 }
 
@@ -48,10 +54,8 @@ fn settle(stack: &[u16; SLOTS], from: usize, len: usize, best: usize) -> usize
     ensures { Settled stack.now from len best result }
 {
     let mut r = best;
-    let mut p = from;
-    while p < len {
-        r = least(r, wide(stack[p]));
-        p += 1;
+    for p in from..len {
+        r = r.min(usize::from(stack[p]));
     }
     r
 }
@@ -73,189 +77,134 @@ fn merged(bound: &[u16; SLOTS], top: usize, p: usize) -> usize
     ensures { Merged bound.now top p result }
 {
     let mut t = top;
-    while p < wide(bound[t - 1]) {
+    while p < usize::from(bound[t - 1]) {
         t -= 1;
     }
     t
 }
 
-// One step of the walk: the last segment is done, or a finger moves on, and has run out, or finds a new index, or one of
-// the path.
-fn step(
-    rows: &[u16],
-    reads: &[u16],
-    chosen: &[u16],
-    net: &[u16; NET_LENGTH],
-    n: u16,
-    mark: &mut [u16; SLOTS],
-    stack: &mut [u16; SLOTS],
-    bound: &mut [u16; SLOTS],
-    finger: &mut [u64; SLOTS],
-    mut w: Walk,
-) -> Walk
-    requires { Followable rows.now reads.now chosen.now net.now n × (0 < w.len)
-        × Walked (graph_of rows.now reads.now chosen.now n) mark.old stack.old bound.old finger.old w.len w.top w.at
-        × Best (graph_of rows.now reads.now chosen.now n) mark.old w.best }
-    ensures { Stepped (graph_of rows.now reads.now chosen.now n) mark.old mark.new
-        stack.new bound.new finger.new w.top w.at result.len result.top result.at result.best }
-{
-    let len = w.len;
-    let top = w.top;
-    let at = w.at;
-    let b = bound[top - 1] as usize;
-    if at == b {
-        finish(mark, stack, b, len);
-        w.best = counted(stack, b, len, w.best);
-        w.len = b;
-        w.top = top - 1;
-        w.at = b;
-        return w;
+impl Path {
+    // One step of the walk: the last segment is done, or a finger moves on, and has run out, or finds a new index, or one of
+    // the path.
+    fn step(&mut self, g: &Following, mut w: Walk) -> Walk
+        requires { (0 < w.len)
+            × Walked (graph g.now) self.old.mark self.old.stack self.old.bound self.old.finger w.len w.top w.at
+            × Best (graph g.now) self.old.mark w.best }
+        ensures { Stepped (graph g.now) self.old.mark self.new.mark self.new.stack self.new.bound self.new.finger w.top w.at
+            result.len result.top result.at result.best }
+    {
+        let len = w.len;
+        let top = w.top;
+        let at = w.at;
+        let b = self.bound[top - 1] as usize;
+        if at == b {
+            finish(&mut self.mark, &self.stack, b, len);
+            w.best = counted(&self.stack, b, len, w.best);
+            w.len = b;
+            w.top = top - 1;
+            w.at = b;
+            return w;
+        }
+        let j = self.stack[at - 1] as usize;
+        let x = g.seek(&self.mark, b, j, self.finger[j]);
+        let l = x.index;
+        self.finger[j] = x.finger;
+        let size = g.choice.chosen.len();
+        if size <= l {
+            w.at = at - 1;
+            return w;
+        }
+        if self.mark[l] == 0 {
+            self.stack[len] = l as u16;
+            self.mark[l] = (len + 2) as u16;
+            self.bound[top] = len as u16;
+            w.len = len + 1;
+            w.top = top + 1;
+            w.at = len + 1;
+            return w;
+        }
+        w.top = merged(&self.bound, top, self.mark[l] as usize - 2);
+        w
     }
-    let j = stack[at - 1] as usize;
-    let x = seek(rows, reads, chosen, net, n, mark, b, j, finger[j]);
-    let l = x.index;
-    finger[j] = x.finger;
-    if chosen.len() <= l {
-        w.at = at - 1;
-        return w;
-    }
-    if mark[l] == 0 {
-        stack[len] = l as u16;
-        mark[l] = (len + 2) as u16;
-        bound[top] = len as u16;
-        w.len = len + 1;
-        w.top = top + 1;
-        w.at = len + 1;
-        return w;
-    }
-    w.top = merged(bound, top, mark[l] as usize - 2);
-    w
-}
 
-// Walks all that leads to root, if it is new.
-fn explore(
-    rows: &[u16],
-    reads: &[u16],
-    chosen: &[u16],
-    net: &[u16; NET_LENGTH],
-    n: u16,
-    root: usize,
-    mark: &mut [u16; SLOTS],
-    stack: &mut [u16; SLOTS],
-    bound: &mut [u16; SLOTS],
-    finger: &mut [u64; SLOTS],
-    best: usize,
-) -> usize
-    requires { Followable rows.now reads.now chosen.now net.now n × (root < length chosen.now)
-        × Walked (graph_of rows.now reads.now chosen.now n) mark.old stack.old bound.old finger.old 0 0 0
-        × Best (graph_of rows.now reads.now chosen.now n) mark.old best }
-    ensures { Explored (graph_of rows.now reads.now chosen.now n) root mark.old
-        mark.new stack.new bound.new finger.new result }
-{
-    if mark[root] != 0 {
-        return best;
+    // Walks all that leads to root, if it is new.
+    fn explore(&mut self, g: &Following, root: usize, best: usize) -> usize
+        requires { (root < length g.now.choice.chosen.now)
+            × Walked (graph g.now) self.old.mark self.old.stack self.old.bound self.old.finger 0 0 0
+            × Best (graph g.now) self.old.mark best }
+        ensures { Explored (graph g.now) root self.old.mark self.new.mark self.new.stack self.new.bound self.new.finger result }
+    {
+        if self.mark[root] != 0 {
+            return best;
+        }
+        self.stack[0] = root as u16;
+        self.mark[root] = 2;
+        self.bound[0] = 0;
+        let mut w = Walk {
+            len: 1,
+            top: 1,
+            at: 1,
+            best: best,
+        };
+        while 0 < w.len {
+            w = self.step(g, w);
+        }
+        w.best
     }
-    stack[0] = root as u16;
-    mark[root] = 2;
-    bound[0] = 0;
-    let mut w = Walk {
-        len: 1,
-        top: 1,
-        at: 1,
-        best: best,
-    };
-    while 0 < w.len {
-        w = step(rows, reads, chosen, net, n, mark, stack, bound, finger, w);
-    }
-    w.best
 }
 
 // Whether a read from `from` up to `to` is of v.
 fn is_read(reads: &[u16], from: usize, to: usize, v: Variable) -> bool
-    requires { to ≤ length reads.now }
+    requires { (from ≤ to) × (to ≤ length reads.now) }
     ensures { result ≡ reads_any reads.now from to v.0 }
 {
-    let mut r = from;
-    while r < to {
-        if reads[r] == v.0 {
-            return true;
-        }
-        r += 1;
-    }
-    false
+    reads[from..to].contains(&v.0)
 }
 
 // Whether j is before itself: its own star reads its variable, or a guard around it does.
-fn is_before_itself(
-    rows: &[u16],
-    reads: &[u16],
-    chosen: &[u16],
-    net: &[u16; NET_LENGTH],
-    n: u16,
-    j: usize,
-) -> bool
-    requires { Followable rows.now reads.now chosen.now net.now n × (j < length chosen.now) }
-    ensures { result ≡ prior rows.now reads.now chosen.now j j }
+fn is_before_itself(g: &Following, j: usize) -> bool
+    requires { j < length g.now.choice.chosen.now }
+    ensures { result ≡ prior g.now.choice.rows.now g.now.reads.now g.now.choice.chosen.now j j }
 {
-    let v = Variable(arg_of(rows, Label(chosen[j])));
-    let mut star = Label(chosen[j] + 1);
+    let rows = g.choice.rows;
+    let label = g.choice.chosen[j];
+    let v = Variable(arg_of(rows, Label(label)));
+    let mut star = Label(label + 1);
     while 0 < star.0 {
-        if is_read(reads, wide(from_of(rows, star)), stop_of(rows, star), v) {
+        if is_read(
+            g.reads,
+            usize::from(from_of(rows, star)),
+            stop_of(rows, star),
+            v,
+        ) {
             return true;
         }
-        star = guard_of(net, star);
+        star = g.net.guard_of(star);
     }
     false
 }
 
 // The lowest index that is before itself, or how many there are.
-fn first_self(rows: &[u16], reads: &[u16], chosen: &[u16], net: &[u16; NET_LENGTH], n: u16) -> usize
-    requires { Followable rows.now reads.now chosen.now net.now n }
-    ensures { Selfless (graph_of rows.now reads.now chosen.now n) result }
+fn first_self(g: &Following) -> usize
+    ensures { Selfless (graph g.now) result }
 {
-    let mut j = 0;
-    while j < chosen.len() {
-        if is_before_itself(rows, reads, chosen, net, n, j) {
-            return j;
-        }
-        j += 1;
-    }
-    j
+    first_where(g.choice.chosen.len(), |j| is_before_itself(g, j))
 }
 
 // The lowest index on a cycle, or how many there are.
-pub fn lowest_on_cycle(
-    rows: &[u16],
-    reads: &[u16],
-    chosen: &[u16],
-    net: &[u16; NET_LENGTH],
-    n: u16,
-) -> usize
-    requires { Followable rows.now reads.now chosen.now net.now n }
-    ensures { result ≡ lowest_on_cycle rows.now reads.now chosen.now }
+pub fn lowest_on_cycle(g: &Following) -> usize
+    ensures { result ≡ lowest_on_cycle g.now.choice.rows.now g.now.reads.now g.now.choice.chosen.now }
 {
-    let mut mark = [0u16; SLOTS];
-    let mut stack = [0u16; SLOTS];
-    let mut bound = [0u16; SLOTS];
-    let mut finger = [0u64; SLOTS];
-    start(rows, chosen, n, &mut finger);
-    let mut best = first_self(rows, reads, chosen, net, n);
-    let mut root = 0;
-    while root < chosen.len() {
-        best = explore(
-            rows,
-            reads,
-            chosen,
-            net,
-            n,
-            root,
-            &mut mark,
-            &mut stack,
-            &mut bound,
-            &mut finger,
-            best,
-        );
-        root += 1;
+    let mut path = Path {
+        mark: [0; SLOTS],
+        stack: [0; SLOTS],
+        bound: [0; SLOTS],
+        finger: [0; SLOTS],
+    };
+    start(&g.choice, &mut path.finger);
+    let mut best = first_self(g);
+    for root in 0..g.choice.chosen.len() {
+        best = path.explore(g, root, best);
     }
     best
 }

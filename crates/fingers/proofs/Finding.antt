@@ -7,6 +7,7 @@ use mathlib.Core.Bool.{Bool, true, false}
 use mathlib.Core.List.{List}
 use lib.ListN.{length}
 use borrow.Author.Tests.{eq-eqb, ne_eqb}
+use Rattle.net.specs.declared.Net.{Net}
 use Rattle.fingers.specs.declared.Moved.{Moved}
 use Rattle.fingers.specs.Inside.Followable.{Followable}
 use Rattle.fingers.specs.Inside.Spots.{stop_of, packed, ahead, calls, spot_after, sought_within, sought_from, IsSpot, After}
@@ -14,7 +15,7 @@ use Rattle.paper.proofs.Tests.{by, by-eq, by-lt}
 use Rattle.fingers.proofs.GoesOn.{ahead-is, after-index, after_read, after-star}
 
 module _ (rows reads chosen : List ℕ) where
-  module _ (net : List ℕ) (#N : ℕ) (ready : Followable rows reads chosen net #N) (s r k : ℕ) where
+  module _ (net : Net) (#N : ℕ) (ready : Followable rows reads chosen net #N) (s r k : ℕ) where
     abbrev AfterIt : ℕ × ℕ × ℕ → Type 0
     AfterIt p = After rows reads chosen #N s r k p.0 p.1 p.2
 
@@ -67,7 +68,7 @@ module _ (rows reads chosen : List ℕ) where
     unfolding sought_from
     found_here s r k h e = within-here s r k h (ahead rows chosen s r k) (some-ahead s r k h) e
 
-    module _ (net : List ℕ) (#N : ℕ) (ready : Followable rows reads chosen net #N) where
+    module _ (net : Net) (#N : ℕ) (ready : Followable rows reads chosen net #N) where
       pub enough : (m n s r k : ℕ) → IsSpot rows chosen #N s r k → ahead rows chosen s r k ≤ m → ahead rows chosen s r k ≤ n
           → within m (s, r, k) ≡ within n (s, r, k)
       enough zero n s r k P a b =

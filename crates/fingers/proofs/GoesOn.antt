@@ -17,7 +17,8 @@ use Rattle.rows.specs.Rows.{kind_of, arg_of, from_of}
 use Rattle.entries.proofs.First.{first-le, first-at, first_below}
 use Rattle.rows.specs.Inside.Tree.{guard_of}
 use Rattle.net.specs.Inside.Prior.{star_reads, around, variable_of}
-use Rattle.net.specs.Inside.Net.{first_with, guards_from, nexts_from, firsts_from}
+use Rattle.net.specs.Inside.Net.{first_with}
+use Rattle.net.specs.declared.Net.{Net}
 use Rattle.fingers.specs.Inside.Followable.{Followable}
 use Rattle.fingers.specs.Inside.Spots.{stop_of, reads_any, packed, pending, ahead, spot_after, IsSpot, After}
 use Rattle.paper.proofs.Tests.{by-eq, by-lt, never}
@@ -127,13 +128,13 @@ module _ (rows reads chosen : List ℕ) where
       out (read_later a) = or_left (star_reads rows reads s (variable_of rows chosen i)) _ (star-reads rows reads s (variable_of rows chosen i) ∙ a)
       out (read_around a) = or_right (star_reads rows reads s (variable_of rows chosen i)) _ a
 
-  module _ (net : List ℕ) (#N : ℕ) (ready : Followable rows reads chosen net #N) (s r k : ℕ) (P : IsSpot rows chosen #N s r k) (h : 0 < s) where
+  module _ (net : Net) (#N : ℕ) (ready : Followable rows reads chosen net #N) (s r k : ℕ) (P : IsSpot rows chosen #N s r k) (h : 0 < s) where
     -- the reads of a star are there
     pub stop-in : stop_of rows s ≤ length reads
     stop-in = ready.read s P.star (P.kind h)
 
     -- k < length chosen: the next index of its variable
-    pub after-index : k < length chosen → After rows reads chosen #N s r k s r (get_or net (nexts_from + k) 0)
+    pub after-index : k < length chosen → After rows reads chosen #N s r k s r (get_or net.nexts k 0)
     unfolding spot_after
     after-index l = rw (ready.netted.nexts k l) (record {
       spot = record { star = P.star; kind = P.kind; read = P.read; index = next-in.1 };
@@ -166,7 +167,7 @@ module _ (rows reads chosen : List ℕ) where
         new i hi d (read_around a) = read_around a
 
     -- all indices of a read are passed: the next read, and the first index of its variable
-    pub after_read : length chosen ≤ k → r < stop_of rows s → After rows reads chosen #N s r k s (r + 1) (get_or net (firsts_from + get_or reads r 0) 0)
+    pub after_read : length chosen ≤ k → r < stop_of rows s → After rows reads chosen #N s r k s (r + 1) (get_or net.firsts (get_or reads r 0) 0)
     unfolding spot_after
     after_read l m = rw (ready.netted.firsts v (ready.variables r (let z = stop-in in omega arith))) (record {
       spot = record {
@@ -215,7 +216,7 @@ module _ (rows reads chosen : List ℕ) where
     past-star l m = rw (le-ltb k (length chosen) l, le-ltb r (stop_of rows s) m)
 
     pub after-star : length chosen ≤ k → stop_of rows s ≤ r
-        → After rows reads chosen #N s r k (get_or net (guards_from + s) 0) (from_of rows (get_or net (guards_from + s) 0)) (length chosen)
+        → After rows reads chosen #N s r k (get_or net.guards s 0) (from_of rows (get_or net.guards s 0)) (length chosen)
     after-star l m = rw (ready.netted.guards.guards s P.star) (by-lt 0 (guard_of rows s) some-guard no_more)
       where
         from-here : (i : ℕ) → pending rows reads chosen s r k i ≡ true → around rows reads s (variable_of rows chosen i) ≡ true

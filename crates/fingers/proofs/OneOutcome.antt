@@ -18,8 +18,9 @@ one-start rows chosen old xs ys p q =
 pub stop-of : OneOutcome fingers.stop_of.Kinds.ps fingers.stop_of.Kinds.r fingers.stop_of.Reads.Pre fingers.stop_of.Reads.Post
 stop-of κs a pre x y v w p q = (by-equation p q, refl)
 
-pub seek : OneOutcome fingers.seek.Kinds.ps fingers.seek.Kinds.r fingers.seek.Reads.Pre fingers.seek.Reads.Post
-seek κs a pre x y v w p q = (by-equation p.exactly q.exactly, refl)
+pub following-seek :
+    OneOutcome fingers.Following.seek.Kinds.ps fingers.Following.seek.Kinds.r fingers.Following.seek.Reads.Pre fingers.Following.seek.Reads.Post
+following-seek κs a pre x y v w p q = (by-equation p.exactly q.exactly, refl)
 
 pub start : OneOutcome fingers.start.Kinds.ps fingers.start.Kinds.r fingers.start.Reads.Pre fingers.start.Reads.Post
-start κs a pre x y v w p q = (refl, λ i. (tt, (tt, (tt, (one-start _ _ _ _ _ p q i, tt)))))
+start κs a pre x y v w p q = (refl, λ i. (tt, (one-start _ _ _ _ _ p q i, tt)))

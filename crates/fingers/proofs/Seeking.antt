@@ -12,6 +12,7 @@ use Rattle.paper.specs.Limits.{slots, most_reads}
 use Rattle.paper.proofs.Bools.{both, and_left, and_right, not_so}
 use Rattle.rows.specs.Rows.{kind_of, from_of}
 use Rattle.net.specs.Inside.Prior.{is_frozen, variable_of, prior}
+use Rattle.net.specs.declared.Net.{Net}
 use Rattle.fingers.specs.Inside.Followable.{Followable}
 use Rattle.fingers.specs.Inside.Graph.{Graph, Next, free, outside, Started}
 use Rattle.fingers.specs.Inside.Spots.{packed, calls, start_of, AtStart, pending, After, SpotOf, Sought, passed_of, finger_of, graph_of, Answered}
@@ -53,7 +54,7 @@ module _ (rows reads chosen : List ℕ) (#N : ℕ) where
         not_so _ (λ p. never _ (both (ltb k (length chosen)) _ (lt-ltb k (length chosen) h)
         (both (o k) _ q (and_right (is_frozen rows reads (get_or chosen j 0) (variable_of rows chosen k)) _ p))) e)
 
-    pub sought-more : (net : List ℕ) → Followable rows reads chosen net #N → (s r k s' r' k' : ℕ) → 0 < s
+    pub sought-more : (net : Net) → Followable rows reads chosen net #N → (s r k s' r' k' : ℕ) → 0 < s
         → Sought rows reads chosen #N o j s₀ r₀ k₀ s r k → calls rows chosen o k j ≡ false → After rows reads chosen #N s r k s' r' k'
         → Sought rows reads chosen #N o j s₀ r₀ k₀ s' r' k'
     sought-more net ready s r k s' r' k' h x e a = record {
@@ -135,7 +136,7 @@ module _ (rows reads chosen : List ℕ) (#N : ℕ) where
     }
 
   -- the finger before all that the own star of j reads
-  module _ (net : List ℕ) (ready : Followable rows reads chosen net #N) (j : ℕ) (hj : j < length chosen) where
+  module _ (net : Net) (ready : Followable rows reads chosen net #N) (j : ℕ) (hj : j < length chosen) where
     abbrev own : ℕ
     own = get_or chosen j 0 + 1
 
@@ -177,7 +178,7 @@ module _ (rows reads chosen : List ℕ) (#N : ℕ) where
         let none : pending rows reads chosen own (from_of rows own) (length chosen) i ≡ false = rw (s.0, s.1, s.2) at gone in
         not_so _ (λ p. never _ (and_left (is_frozen rows reads (get_or chosen j 0) (variable_of rows chosen i)) _ p) (sym (all_frozen i) ∙ none))
 
-  pub started : (net old finger : List ℕ) → Followable rows reads chosen net #N → AtStart rows chosen (length chosen) old finger
+  pub started : (net : Net) (old finger : List ℕ) → Followable rows reads chosen net #N → AtStart rows chosen (length chosen) old finger
       → Started (graph_of rows reads chosen #N) finger
   started net old finger ready a = record {
     size = a.size;

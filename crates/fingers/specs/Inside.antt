@@ -1,3 +1,4 @@
 pub mod Followable
+pub mod Follow
 pub mod Graph
 pub mod Spots

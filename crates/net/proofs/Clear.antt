@@ -3,14 +3,16 @@
 use Prim.Native.Nat.{ℕ, ◌+◌, ◌<◌, ◌≤◌}
 use native.Mathlib.Omega.{arith}
 use native.Mathlib.Nat.{eq-or-lt_of_le}
-use mathlib.Core.Path.{◌≡◌, sym, ap, ◌∙◌}
+use mathlib.Core.Path.{◌≡◌, sym, ap, subst, ◌∙◌}
 use mathlib.Core.Bool.{true, false, cond, ◌&&◌}
 use mathlib.Core.List.{List}
 use lib.Dec.{eqb, ltb}
 use lib.ListN.{get_or}
 use borrow.Author.Tests.{eq-eqb, ne_eqb, lt-ltb, le-ltb, ltb-true}
 use Rattle.paper.proofs.Bools.{and_left, and_right, both, not_so, or_left, or_right, pick}
-use Rattle.rows.specs.Rows.{kind_of, end_of}
+use Rattle.rows.specs.Rows.{kind_of, end_of, form_of}
+use Rattle.rows.specs.declared.form.Form.TheVariants as form
+use Rattle.rows.proofs.Rules.{KindIs, is-conjunction, kind_is}
 use Rattle.entries.proofs.First.{first_found, first-none}
 use Rattle.rows.proofs.Meets.{lt-or-le}
 use Rattle.rows.specs.Inside.Tree.{is_under}
@@ -18,6 +20,17 @@ use Rattle.net.specs.Inside.Prior.{over_both, share_branch_in}
 use Rattle.net.specs.Inside.Net.{Tree, Parents, Cleared, towards, clear_to}
 use Rattle.paper.proofs.Last.{last-is}
 use Rattle.net.proofs.Climb.{under, under-from, under_to, under-not, Parent, parent_by}
+
+-- kind word 3 is a conjunction's, and no other
+pub is_conjunction : (k : ℕ) → form_of k ≡ form.Conjunction → k ≡ 3
+is_conjunction k e = named (subst (KindIs k) e (kind_is k))
+  where
+    named : KindIs k form.Conjunction → k ≡ 3
+    named (is-conjunction p) = p
+
+pub conjunction-form : (k : ℕ) → k ≡ 3 → form_of k ≡ form.Conjunction
+unfolding form_of
+conjunction-form k e = rw e
 
 -- where two candidates share a branch, or not
 joined_to : (rows : List ℕ) (i j : ℕ) → share_branch_in rows i j ≡ true → i ≡ clear_to rows i j
@@ -200,9 +213,9 @@ module _ {rows : List ℕ} {#N i j : ℕ} (q : Pair rows #N i j) where
         apart = λ x a b. shares-none x (beside x a (omega arith) (λ _. let m = u.misses l in omega arith)) k;
       }
 
-  module _ {net : List ℕ} (p : Parents rows #N net) where
+  module _ {words : List ℕ} (p : Parents rows #N words) where
     -- the way begins at j
-    pub upward-first : {top : ℕ} → (i ≡ j → ⊥) → top ≡ get_or net j 0 → Upward rows i j j top
+    pub upward-first : {top : ℕ} → (i ≡ j → ⊥) → top ≡ get_or words j 0 → Upward rows i j j top
     upward-first {top} d e = record {
       up = parent_by rows #N j top q.tree some q.there (e ∙ p.parents j some q.there);
       from = omega arith;
@@ -217,7 +230,7 @@ module _ {rows : List ℕ} {#N i j : ℕ} (q : Pair rows #N i j) where
         some = not_first q.tree j q.here past
 
     -- and goes on from a row that is not over i
-    pub upward-next : {below top next : ℕ} → Upward rows i j below top → is_under rows top i ≡ false → next ≡ get_or net top 0 → Upward rows i j top next
+    pub upward-next : {below top next : ℕ} → Upward rows i j below top → is_under rows top i ≡ false → next ≡ get_or words top 0 → Upward rows i j top next
     upward-next {below} {top} {next} u e z =
         let some = not_first q.tree top q.here (under-not rows top i e) in
         record {

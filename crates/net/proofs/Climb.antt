@@ -81,9 +81,9 @@ module _ (rows : List ℕ) where
   parent_by #N i a t h k e = subst⁻¹ (Parent i) e (parent-of #N i t h k)
 
   -- the way up from row i, at row a, which is not over it: the row noted for a is right over it
-  pub parent-noted : (#N i a b : ℕ) (net : List ℕ) → Tree rows #N → i < #N → ((j : ℕ) → 0 < j → j < i → get_or net j 0 ≡ parent_of rows j)
-      → Reached i a → end_of rows a ≤ i → b ≡ get_or net a 0 → Parent a b
-  parent-noted #N i a b net t h noted r e q =
+  pub parent-noted : (#N i a b : ℕ) (words : List ℕ) → Tree rows #N → i < #N → ((j : ℕ) → 0 < j → j < i → get_or words j 0 ≡ parent_of rows j)
+      → Reached i a → end_of rows a ≤ i → b ≡ get_or words a 0 → Parent a b
+  parent-noted #N i a b words t h noted r e q =
       let l = r.below in parent_by #N a b t some (omega arith) (q ∙ noted a some l)
     where
       some : 0 < a

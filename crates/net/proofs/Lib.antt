@@ -1,6 +1,5 @@
 pub mod Climb
 pub mod Notes
-pub mod Filled
 pub mod Guarding
 pub mod Chains
 pub mod Clear

@@ -1,2 +1,3 @@
 pub mod Prior
 pub mod Net
+pub mod OneProof

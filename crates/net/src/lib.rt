@@ -1,61 +1,71 @@
 // The net: what is kept beside the rows so that "before" can be followed label by label without walking from the root.
 #![tactic(auto)]
 
-ghost use Rattle.std.specs.Prelude.{◌≡◌, ℕ, ◌+◌, ◌*◌, ◌≤◌, ◌<◌, length, get_or, take};
+ghost use Rattle.std.specs.Prelude.{◌≡◌, ℕ, ◌+◌, ◌*◌, ◌≤◌, ◌<◌, length, get_or};
 ghost use Rattle.paper.specs.Formula.{ℓ};
 ghost use Rattle.rows.specs.Rows.{kind_of};
 ghost use Rattle.rows.specs.Inside.Tree.{is_under, parent_of, guard_of};
-ghost use Rattle.net.specs.Inside.Net.{Tree, Chosen, Parents, Guards, Net, Noted, Cleared, Only};
-ghost use Rattle.net.specs.Inside.Net.{ParentWord, GuardWord, IndexWord, guards_from, nexts_from, firsts_from, net_length};
+ghost use Rattle.net.specs.Inside.Net.{Tree, Chosen, Parents, Words, Noted, Cleared, next_with, first_with};
+ghost use Rattle.net.specs.Inside.OneProof.{Chosen-prop};
 ghost use Rattle.paper.specs.Limits.{most_rows, most_variables, slots};
 
-use entries::wide;
 use paper::limits::{MOST_ROWS, MOST_VARIABLES, SLOTS};
 use paper::{Label, Variable};
+use rows::form::{Form, form_of};
 use rows::{arg_of, end_of, kind_of};
 
-// Where the parts of a net begin, as specs/Inside/Net.antt has them, and how many words it has.
-const GUARDS_FROM: usize = MOST_ROWS;
+// Rows of one tree, chosen labels of theirs, and how many rows there are.
+#[derive(Clone, Copy)]
+pub struct Choice<'a> {
+    pub rows: &'a [u16],
+    pub chosen: &'a [u16],
+    pub n: u16,
+    pub ghost made: { Chosen rows.now chosen.now n } by { Chosen-prop rows.now chosen.now n },
+}
 
-const NEXTS_FROM: usize = GUARDS_FROM + MOST_ROWS;
+// What is kept: for each row the row over it and the star of the innermost guard around it, or label 0 for none; for each
+// chosen label the index of the next one with its variable, and for each variable the index of its first, or how many
+// there are for none.
+#[derive(Drop)]
+pub struct Net {
+    pub parents: [u16; MOST_ROWS],
+    pub guards: [u16; MOST_ROWS],
+    pub nexts: [u16; SLOTS],
+    pub firsts: [u16; MOST_VARIABLES],
+}
 
-const FIRSTS_FROM: usize = NEXTS_FROM + SLOTS;
+impl Net {
+    // The star of the innermost guard around a row, or label 0 for none.
+    pub fn guard_of(&self, at: Label) -> Label
+        requires { at.0 < most_rows }
+        ensures { result ≡ ℓ (get_or self.now.guards at.0 0) }
+    {
+        label_at(&self.guards, at)
+    }
 
-pub const NET_LENGTH: usize = FIRSTS_FROM + MOST_VARIABLES;
+    // The index of the next chosen label with the variable of the k-th.
+    pub fn next_of(&self, k: usize) -> u16
+        requires { k < slots }
+        ensures { result ≡ get_or self.now.nexts k 0 }
+    {
+        self.nexts[k]
+    }
 
-// The row over a row.
-fn parent_of(net: &[u16; NET_LENGTH], at: Label) -> Label
+    // The index of the first chosen label of a variable.
+    pub fn first_with(&self, v: Variable) -> u16
+        requires { v.0 < most_variables }
+        ensures { result ≡ get_or self.now.firsts v.0 0 }
+    {
+        self.firsts[usize::from(v.0)]
+    }
+}
+
+// What a word for each row has for one, as a label.
+fn label_at(words: &[u16; MOST_ROWS], at: Label) -> Label
     requires { at.0 < most_rows }
-    ensures { result ≡ ℓ (get_or net.now at.0 0) }
+    ensures { result ≡ ℓ (get_or words.now at.0 0) }
 {
-    let i = at.0 as usize;
-    Label(net[i])
-}
-
-// The star of the innermost guard around a row, or label 0 for none.
-pub fn guard_of(net: &[u16; NET_LENGTH], at: Label) -> Label
-    requires { at.0 < most_rows }
-    ensures { result ≡ ℓ (get_or net.now (guards_from + at.0) 0) }
-{
-    let i = at.0 as usize;
-    Label(net[GUARDS_FROM + i])
-}
-
-// The index of the next chosen label with the variable of the k-th.
-pub fn next_of(net: &[u16; NET_LENGTH], k: usize) -> usize
-    requires { k < slots }
-    ensures { result ≡ get_or net.now (nexts_from + k) 0 }
-{
-    wide(net[NEXTS_FROM + k])
-}
-
-// The index of the first chosen label of a variable.
-pub fn first_with(net: &[u16; NET_LENGTH], v: Variable) -> usize
-    requires { v.0 < most_variables }
-    ensures { result ≡ get_or net.now (firsts_from + v.0) 0 }
-{
-    let i = v.0 as usize;
-    wide(net[FIRSTS_FROM + i])
+    Label(words[usize::from(at.0)])
 }
 
 // Whether row `at` lies in the subtree of row `top`.
@@ -71,119 +81,104 @@ fn is_over(rows: &[u16], top: Label, at: Label) -> bool
 
 // The row over a row that is not the first, from the rows over those before it: from the row before it up, the first whose
 // subtree holds it.
-fn climbed(rows: &[u16], net: &[u16; NET_LENGTH], n: u16, at: Label) -> Label
-    requires { Tree rows.now n × (0 < at.0) × (at.0 < n) × ((i : ℕ) → 0 < i → i < at.0 → get_or net.now i 0 ≡ parent_of rows.now i) }
-    ensures { result ≡ ℓ (parent_of rows.now at.0) }
+fn climbed(c: &Choice, parents: &[u16; MOST_ROWS], at: Label) -> Label
+    requires { (0 < at.0) × (at.0 < c.now.n) × ((i : ℕ) → 0 < i → i < at.0 → get_or parents.now i 0 ≡ parent_of c.now.rows.now i) }
+    ensures { result ≡ ℓ (parent_of c.now.rows.now at.0) }
 {
     let mut top = Label(at.0 - 1);
-    while end_of(rows, top).0 <= at.0 {
-        top = parent_of(net, top);
+    while end_of(c.rows, top).0 <= at.0 {
+        top = label_at(parents, top);
     }
     top
 }
 
-// Notes the row over each row.
-fn note_parents(rows: &[u16], n: u16, net: &mut [u16; NET_LENGTH])
-    requires { Tree rows.now n × (length net.old ≡ net_length) }
-    ensures { Parents rows.now n net.new × Only (ParentWord n) net.old net.new }
+// Notes the row over each row, where none is noted yet.
+fn note_parents(c: &Choice, parents: &mut [u16; MOST_ROWS])
+    requires { Words most_rows (parent_of c.now.rows.now) 0 parents.old }
+    ensures { Words most_rows (parent_of c.now.rows.now) c.now.n parents.new }
 {
-    let mut i: u16 = 1;
-    while i < n {
-        let top = climbed(rows, net, n, Label(i));
-        net[i as usize] = top.0;
-        i += 1;
+    for i in 1..c.n {
+        parents[usize::from(i)] = climbed(c, parents, Label(i)).0;
     }
 }
 
 // The star of the innermost guard around a row that is not the first, from those of the rows before it.
-fn guarded_by(rows: &[u16], net: &[u16; NET_LENGTH], n: u16, at: Label) -> Label
-    requires { Tree rows.now n × (0 < at.0) × (at.0 < n) × (get_or net.now at.0 0 ≡ parent_of rows.now at.0)
-        × ((i : ℕ) → i < at.0 → get_or net.now (guards_from + i) 0 ≡ guard_of rows.now i) }
-    ensures { result ≡ ℓ (guard_of rows.now at.0) }
+fn guarded_by(c: &Choice, parents: &[u16; MOST_ROWS], guards: &[u16; MOST_ROWS], at: Label) -> Label
+    requires { (0 < at.0) × (at.0 < c.now.n) × (get_or parents.now at.0 0 ≡ parent_of c.now.rows.now at.0)
+        × ((i : ℕ) → i < at.0 → get_or guards.now i 0 ≡ guard_of c.now.rows.now i) }
+    ensures { result ≡ ℓ (guard_of c.now.rows.now at.0) }
 {
-    let top = parent_of(net, at);
-    if kind_of(rows, top) < 5 {
-        return guard_of(net, top);
+    let top = label_at(parents, at);
+    // no enum here: by the definition all kind words from 5 on guard, two of them forms
+    if kind_of(c.rows, top) < 5 {
+        return label_at(guards, top);
     }
     if at.0 == top.0 + 1 {
-        return guard_of(net, top);
+        return label_at(guards, top);
     }
     Label(top.0 + 1)
 }
 
-// Notes the star of the innermost guard around each row.
-fn note_guards(rows: &[u16], n: u16, net: &mut [u16; NET_LENGTH])
-    requires { Tree rows.now n × Parents rows.now n net.old }
-    ensures { Parents rows.now n net.new × Guards rows.now n net.new
-        × (get_or net.new guards_from 0 ≡ 0) × Only (GuardWord n) net.old net.new }
+// Notes the star of the innermost guard around each row, where none is noted yet.
+fn note_guards(c: &Choice, parents: &[u16; MOST_ROWS], guards: &mut [u16; MOST_ROWS])
+    requires { Words most_rows (parent_of c.now.rows.now) c.now.n parents.now
+        × Words most_rows (guard_of c.now.rows.now) 0 guards.old }
+    ensures { Words most_rows (guard_of c.now.rows.now) c.now.n guards.new }
 {
-    net[GUARDS_FROM] = 0;
-    let mut i: u16 = 1;
-    while i < n {
-        let star = guarded_by(rows, net, n, Label(i));
-        let k = i as usize;
-        net[GUARDS_FROM + k] = star.0;
-        i += 1;
-    }
-}
-
-// Notes for each variable that it has no chosen label yet: the number of chosen labels.
-fn note_none(none: u16, net: &mut [u16; NET_LENGTH])
-    requires { length net.old ≡ net_length }
-    ensures { (length net.new ≡ net_length) × (take firsts_from net.new ≡ take firsts_from net.old)
-        × ((v : ℕ) → v < most_variables → get_or net.new (firsts_from + v) 0 ≡ none) }
-{
-    let mut v = 0;
-    while v < MOST_VARIABLES {
-        net[FIRSTS_FROM + v] = none;
-        v += 1;
+    for i in 1..c.n {
+        guards[usize::from(i)] = guarded_by(c, parents, guards, Label(i)).0;
     }
 }
 
 // Notes for each chosen label the next one of its variable, and for each variable its first, from the last label down.
-fn note_indices(rows: &[u16], chosen: &[u16], n: u16, net: &mut [u16; NET_LENGTH])
-    requires { Chosen rows.now chosen.now n × Parents rows.now n net.old × Guards rows.now n net.old }
-    ensures { Net rows.now chosen.now n net.new
-        × Only (IndexWord (length chosen.now)) net.old net.new }
+fn note_indices(c: &Choice, nexts: &mut [u16; SLOTS], firsts: &mut [u16; MOST_VARIABLES])
+    requires { Words slots (next_with c.now.rows.now c.now.chosen.now) 0 nexts.old }
+    ensures { Words slots (next_with c.now.rows.now c.now.chosen.now) (length c.now.chosen.now) nexts.new
+        × Words most_variables (λ v. first_with c.now.rows.now c.now.chosen.now v 0) most_variables firsts.new }
 {
-    note_none(chosen.len() as u16, net);
-    let mut k = chosen.len();
-    while 0 < k {
-        k -= 1;
-        let v = Variable(arg_of(rows, Label(chosen[k])));
-        let first = FIRSTS_FROM + wide(v.0);
-        net[NEXTS_FROM + k] = net[first];
-        net[first] = k as u16;
+    firsts.fill(c.chosen.len() as u16);
+    for k in (0..c.chosen.len()).rev() {
+        let v = Variable(arg_of(c.rows, Label(c.chosen[k])));
+        let i = usize::from(v.0);
+        nexts[k] = firsts[i];
+        firsts[i] = k as u16;
     }
 }
 
 // The net of rows and chosen labels.
-pub fn note_net(rows: &[u16], chosen: &[u16], n: u16, net: &mut [u16; NET_LENGTH])
-    requires { Chosen rows.now chosen.now n × (length net.old ≡ net_length) }
-    ensures { Noted rows.now chosen.now n net.old net.new }
+pub fn net_of(c: &Choice) -> Net
+    ensures { Noted c.now.rows.now c.now.chosen.now c.now.n result }
 {
-    note_parents(rows, n, net);
-    note_guards(rows, n, net);
-    note_indices(rows, chosen, n, net);
+    let mut net = Net {
+        parents: [0; MOST_ROWS],
+        guards: [0; MOST_ROWS],
+        nexts: [0; SLOTS],
+        firsts: [0; MOST_VARIABLES],
+    };
+    note_parents(c, &mut net.parents);
+    note_guards(c, &net.parents, &mut net.guards);
+    note_indices(c, &mut net.nexts, &mut net.firsts);
+    net
 }
 
 // Whether candidates i and j share a branch, and what that tells of the labels after i: i itself where they do, else a label
 // above it below which none from i on shares a branch with j.
-pub fn clear_of(rows: &[u16], net: &[u16; NET_LENGTH], n: u16, i: Label, j: Label) -> Label
-    requires { Tree rows.now n × Parents rows.now n net.now × (i.0 < n) × (j.0 < n)
+pub fn clear_of(rows: &[u16], net: &Net, n: u16, i: Label, j: Label) -> Label
+    requires { Tree rows.now n × Parents rows.now n net.now.parents × (i.0 < n) × (j.0 < n)
         × (kind_of rows.now i.0 ≡ 2) × (kind_of rows.now j.0 ≡ 2) }
     ensures { Cleared rows.now i.0 j.0 result.0 }
 {
     if i.0 == j.0 {
         return i;
     }
+    let parents = &net.parents;
     let mut below = j;
-    let mut top = parent_of(net, j);
+    let mut top = label_at(parents, j);
     while !is_over(rows, top, i) {
         below = top;
-        top = parent_of(net, top);
+        top = label_at(parents, top);
     }
-    if kind_of(rows, top) == 3 {
+    if form_of(rows, top) == Form::Conjunction {
         return i;
     }
     if i.0 < below.0 {

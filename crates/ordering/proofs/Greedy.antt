@@ -20,7 +20,7 @@ use Rattle.paper.specs.Lists.{up_to}
 use Rattle.entries.specs.Front.{in_front}
 use Rattle.ordering.specs.Inside.Reported.{labelled}
 use Rattle.fingers.specs.Inside.Graph.{Graph, free, left_of, Started}
-use Rattle.ordering.specs.Inside.Placing.{State, Lowest, rest, Placing}
+use Rattle.ordering.specs.Inside.Placing.{State, Ready, rest, Placing}
 use Rattle.paper.proofs.Tests.{by-eq, by-lt, never}
 use Rattle.fingers.proofs.Left.{freed, was_free, left_after, left-shorter}
 
@@ -92,13 +92,13 @@ module _ (g : Graph) where
         still i e q = freed 1 (λ z. omega arith) k placed long i ∙ rw (e, ne_eqb i k q)
 
   -- one index more is placed
-  module _ (chosen : List ℕ) (count k : ℕ) (placed finger wait low out₀ out : List ℕ) (w : Lowest g placed finger wait low k)
-      (p : Placing g chosen count placed out₀ out) (h : k < g.size) where
+  module _ (chosen : List ℕ) (count k : ℕ) (placed finger wait low out₀ out : List ℕ) (w : Ready g k placed finger wait low)
+      (p : Placing g chosen count placed out₀ out) where
     long : k < length placed
-    long = omega (arith, w.state.small, w.state.places)
+    long = omega (arith, w.inside, w.state.small, w.state.places)
 
     shorter : length (left_of g.size (set placed k 1)) < length (left_of g.size placed)
-    shorter = left-shorter 1 (λ e. omega arith) k placed long g.size h (w.ready h).0
+    shorter = left-shorter 1 (λ e. omega arith) k placed long g.size w.inside w.ready.0
 
     pub not_full : count < g.size
     not_full = let z = shorter in omega (arith, p.counted)
@@ -114,7 +114,7 @@ module _ (g : Graph) where
     }
       where
         head : (js : List ℕ) × (those (is_ready g.before (left_of g.size placed)) (left_of g.size placed) ≡ k ∷ js)
-        head = head-is k placed finger wait low w.state h (w.ready h).0 (w.ready h).1
+        head = head-is k placed finger wait low w.state w.inside w.ready.0 w.ready.1
 
         inside : count < length out
         inside = let z = not_full in omega (arith, p.size, w.state.small)

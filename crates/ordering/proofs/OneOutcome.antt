@@ -4,4 +4,4 @@ use Rattle.paper.proofs.Outcome.{by-equation}
 use Rattle.ordering.proofs as ordering
 
 pub order : OneOutcome ordering.order.Kinds.ps ordering.order.Kinds.r ordering.order.Reads.Pre ordering.order.Reads.Post
-order κs a pre x y v w p q = (by-equation p.number q.number, λ i. (tt, (tt, (tt, (tt, (tt, (by-equation p.filled q.filled i, tt)))))))
+order κs a pre x y v w p q = (by-equation p.number q.number, λ i. (tt, (by-equation p.filled q.filled i, tt)))

@@ -5,28 +5,32 @@
 
 ghost use Rattle.std.specs.Prelude.{◌≡◌, ◌≤◌, ◌<◌, ◌&&◌, ltb, length};
 ghost use Rattle.ordering.specs.Inside.Reported.{OrderFilled};
-ghost use Rattle.fingers.specs.Inside.Followable.{Followable};
+ghost use Rattle.fingers.specs.Inside.Follow.{graph};
 ghost use Rattle.fingers.specs.Inside.Graph.{free};
 ghost use Rattle.ordering.specs.Inside.Placing.{State, Lowered, Visited, Lowest};
-ghost use Rattle.fingers.specs.Inside.Spots.{graph_of};
 ghost use Rattle.paper.specs.Limits.{slots};
 
-use entries::{least, wide};
-use fingers::{seek, start};
-use net::NET_LENGTH;
+use fingers::{Following, start};
 use paper::limits::SLOTS;
 
 // An index that no chosen label has.
 const NO_INDEX: u16 = SLOTS as u16;
+
+// What is kept of each index that is left: its finger, the index that it waits for, and the lowest that waits for it. It is
+// words, with `NO_INDEX` for none: the memory is fixed.
+#[derive(Drop)]
+struct Waits {
+    finger: [u64; SLOTS],
+    wait: [u16; SLOTS],
+    low: [u16; SLOTS],
+}
 
 // Notes that k waits for f.
 fn lower(low: &mut [u16; SLOTS], f: usize, k: usize)
     requires { (length low.old ≡ slots) × (f < slots) × (k < slots) }
     ensures { Lowered low.old f k low.new }
 {
-    if k < wide(low[f]) {
-        low[f] = k as u16;
-    }
+    low[f] = low[f].min(k as u16);
 }
 
 // Whether w is an index, of so many, that is not placed.
@@ -34,122 +38,67 @@ fn is_waiting(placed: &[u16; SLOTS], size: usize, w: usize) -> bool
     requires { size < slots }
     ensures { result ≡ (ltb w size && free placed.now w) }
 {
-    if w < size {
-        return placed[w] == 0;
-    }
-    false
+    w < size && placed[w] == 0
 }
 
-// Visits k: whether it is ready. If it is not, it is placed, or waits.
-fn visit(
-    rows: &[u16],
-    reads: &[u16],
-    chosen: &[u16],
-    net: &[u16; NET_LENGTH],
-    n: u16,
-    placed: &[u16; SLOTS],
-    finger: &mut [u64; SLOTS],
-    wait: &mut [u16; SLOTS],
-    low: &mut [u16; SLOTS],
-    k: usize,
-) -> bool
-    requires { Followable rows.now reads.now chosen.now net.now n × (k < length chosen.now)
-        × State (graph_of rows.now reads.now chosen.now n) k placed.now finger.old wait.old low.old }
-    ensures { Visited (graph_of rows.now reads.now chosen.now n) k placed.now
-        finger.new wait.new low.new result }
-{
-    if placed[k] != 0 {
-        return false;
-    }
-    if is_waiting(placed, chosen.len(), wide(wait[k])) {
-        return false;
-    }
-    let x = seek(rows, reads, chosen, net, n, placed, 0, k, finger[k]);
-    let l = x.index;
-    finger[k] = x.finger;
-    wait[k] = l as u16;
-    if l < chosen.len() {
-        lower(low, l, k);
-        return false;
-    }
-    true
-}
-
-// The lowest index from `from` on that is ready, or how many there are.
-fn lowest_ready(
-    rows: &[u16],
-    reads: &[u16],
-    chosen: &[u16],
-    net: &[u16; NET_LENGTH],
-    n: u16,
-    placed: &[u16; SLOTS],
-    finger: &mut [u64; SLOTS],
-    wait: &mut [u16; SLOTS],
-    low: &mut [u16; SLOTS],
-    from: usize,
-) -> usize
-    requires { Followable rows.now reads.now chosen.now net.now n × (from ≤ length chosen.now)
-        × State (graph_of rows.now reads.now chosen.now n) from placed.now finger.old wait.old low.old }
-    ensures { Lowest (graph_of rows.now reads.now chosen.now n) placed.now finger.new
-        wait.new low.new result }
-{
-    let mut k = from;
-    while k < chosen.len() {
-        if visit(rows, reads, chosen, net, n, placed, finger, wait, low, k) {
-            return k;
+impl Waits {
+    // Visits k: whether it is ready. If it is not, it is placed, or waits.
+    fn visit(&mut self, g: &Following, placed: &[u16; SLOTS], k: usize) -> bool
+        requires { (k < length g.now.choice.chosen.now) × State (graph g.now) k placed.now self.old.finger self.old.wait self.old.low }
+        ensures { Visited (graph g.now) k placed.now self.new.finger self.new.wait self.new.low result }
+    {
+        let size = g.choice.chosen.len();
+        if placed[k] != 0 {
+            return false;
         }
-        k += 1;
+        if is_waiting(placed, size, usize::from(self.wait[k])) {
+            return false;
+        }
+        let x = g.seek(placed, 0, k, self.finger[k]);
+        let l = x.index;
+        self.finger[k] = x.finger;
+        self.wait[k] = l as u16;
+        if l < size {
+            lower(&mut self.low, l, k);
+            return false;
+        }
+        true
     }
-    k
+
+    // The lowest index from `from` on that is ready, if one is.
+    fn lowest_ready(&mut self, g: &Following, placed: &[u16; SLOTS], from: usize) -> Option<usize>
+        requires { (from ≤ length g.now.choice.chosen.now) × State (graph g.now) from placed.now self.old.finger self.old.wait self.old.low }
+        ensures { Lowest (graph g.now) placed.now self.new.finger self.new.wait self.new.low result }
+    {
+        for k in from..g.choice.chosen.len() {
+            if self.visit(g, placed, k) {
+                return Some(k);
+            }
+        }
+        None
+    }
 }
 
 // Fills `out` with the labels in the reported order, as far as there is one, and says how many are placed.
-pub fn order(
-    rows: &[u16],
-    reads: &[u16],
-    chosen: &[u16],
-    net: &[u16; NET_LENGTH],
-    n: u16,
-    out: &mut [u16; SLOTS],
-) -> usize
-    requires { Followable rows.now reads.now chosen.now net.now n × (length out.old ≡ slots) }
-    ensures { OrderFilled rows.now reads.now chosen.now out.old out.new result }
+pub fn order(g: &Following, out: &mut [u16; SLOTS]) -> usize
+    requires { length out.old ≡ slots }
+    ensures { OrderFilled g.now.choice.rows.now g.now.reads.now g.now.choice.chosen.now out.old out.new result }
 {
-    let mut placed = [0u16; SLOTS];
-    let mut finger = [0u64; SLOTS];
-    let mut wait = [NO_INDEX; SLOTS];
-    let mut low = [NO_INDEX; SLOTS];
-    start(rows, chosen, n, &mut finger);
+    let chosen = g.choice.chosen;
+    let mut placed = [0; SLOTS];
+    let mut waits = Waits {
+        finger: [0; SLOTS],
+        wait: [NO_INDEX; SLOTS],
+        low: [NO_INDEX; SLOTS],
+    };
+    start(&g.choice, &mut waits.finger);
     let mut count = 0;
-    let mut k = lowest_ready(
-        rows,
-        reads,
-        chosen,
-        net,
-        n,
-        &placed,
-        &mut finger,
-        &mut wait,
-        &mut low,
-        0,
-    );
-    while k < chosen.len() {
+    let mut from = 0;
+    while let Some(k) = waits.lowest_ready(g, &placed, from) {
         out[count] = chosen[k];
         placed[k] = 1;
         count += 1;
-        let from = least(wide(low[k]), k + 1);
-        k = lowest_ready(
-            rows,
-            reads,
-            chosen,
-            net,
-            n,
-            &placed,
-            &mut finger,
-            &mut wait,
-            &mut low,
-            from,
-        );
+        from = usize::from(waits.low[k]).min(k + 1);
     }
     count
 }

@@ -20,10 +20,9 @@ use Rattle.table.specs.declared.Layout.{Layout}
 use Rattle.entries.specs.First.{first}
 use Rattle.table.specs.Table.{checked, rows_in, reads_in, chosen_in}
 use Rattle.written.specs.Tables.{formula_in}
-use Rattle.cover.specs.declared.Covering.TheVariants.{Missed, Doubled}
-use Rattle.cover.specs.declared.Covering.TheVariants as Covering
+use Rattle.cover.specs.declared.Uncovered.{Uncovered}
 use Rattle.marks.specs.Inside.Chosen.{Marked}
-use Rattle.cover.specs.Inside.Masks.{covering_of, judgement_of}
+use Rattle.cover.specs.Inside.Masks.{refusal_of, covering_of, judgement_of}
 use Rattle.keys.specs.Inside.Keys.{total, keys_at}
 use Rattle.cover.proofs.CoveringSays.{covering-says, gives-covered}
 use Rattle.keys.proofs.KeyNumbers.{keys-past-limit, keys-number}
@@ -130,20 +129,16 @@ module _ {rows reads chosen : List ℕ} (l : Layout) (p : Parts rows reads chose
         rw (no-stranger p (omega arith))
         (covering-says rows reads refl marked (few-labels p) p.well_formed (judge_order l.variables (formula_of rows reads) (proposal_of chosen)))
 
-    pub missed-refused : {r : Result Accepted Refusal} {v : Variable} (lent : List ℕ) → covering_of rows marks l.variables ≡ Missed v → r ≡ refused_at VariableMissed v.0
-        → JudgedParts rows reads chosen l lent lent r
-    missed-refused lent e q = refused-so lent (covering-decides ∙ rw e) q
+    pub uncovered-refused : {r : Result Accepted Refusal} {x : Uncovered} (lent : List ℕ) → covering_of rows marks l.variables ≡ Err x
+        → r ≡ Err (refusal_of x) → JudgedParts rows reads chosen l lent lent r
+    uncovered-refused lent e q = refused-so lent (covering-decides ∙ rw e) q
 
-    pub doubled-refused : {r : Result Accepted Refusal} {v : Variable} (lent : List ℕ) → covering_of rows marks l.variables ≡ Doubled v → r ≡ refused_at VariableTwice v.0
-        → JudgedParts rows reads chosen l lent lent r
-    doubled-refused lent e q = refused-so lent (covering-decides ∙ rw e) q
-
-    pub all-covered : covering_of rows marks l.variables ≡ Covering.Covered → Covered rows reads chosen l.variables l.rows
+    pub all-covered : covering_of rows marks l.variables ≡ Ok tt → Covered rows reads chosen l.variables l.rows
     all-covered e =
         let (none_missed, none_doubled) = (gives-covered rows reads refl marked (few-labels p) p.well_formed).0 e in
         record { parts = p; no_strangers = no-stranger p (omega arith); none_missed = none_missed; none_doubled = none_doubled }
 
-    pub covered-judged : {r : Result Accepted Refusal} {lent left : List ℕ} → covering_of rows marks l.variables ≡ Covering.Covered
+    pub covered-judged : {r : Result Accepted Refusal} {lent left : List ℕ} → covering_of rows marks l.variables ≡ Ok tt
         → OrderedParts rows reads chosen l lent left r → JudgedParts rows reads chosen l lent left r
     covered-judged {r} {lent} {left} e o = subst (JudgedBy rows reads chosen l lent left r) (sym (covering-decides ∙ rw e)) o
 

@@ -30,7 +30,8 @@ use Rattle.rows.proofs.Taken.{taken-there}
 use Rattle.table.proofs.LaidExactly.{accepted}
 use Rattle.written.proofs.Tables.{understood}
 use Rattle.marks.specs.Inside.Chosen.{AllBelow}
-use Rattle.net.specs.Inside.Net.{Chosen, Net}
+use Rattle.net.specs.declared.Net.{Net}
+use Rattle.net.specs.Inside.Net.{Chosen, IsNet}
 use Rattle.net.proofs.Sound.{chosen_of}
 use Rattle.net.proofs.Spans.{labels-count, labels-between}
 use Rattle.fingers.specs.Inside.Followable.{Followable}
@@ -169,7 +170,7 @@ module _ {rows reads chosen : List ℕ} {#V #N : ℕ} (p : Parts rows reads chos
   chosen-rows kinds =
       chosen_of rows reads #V #N p.keeps p.room p.at_most_rows chosen p.below (ascend-all chosen p.ascends) kinds p.some_rows p.at_most_variables
 
-  pub ready : {net : List ℕ} → Chosen rows chosen #N → Net rows chosen #N net → Followable rows reads chosen net #N
+  pub ready : {net : Net} → Chosen rows chosen #N → IsNet rows chosen #N net → Followable rows reads chosen net #N
   ready c n = record {
     choice = c;
     netted = n;

@@ -24,7 +24,8 @@ use Rattle.paper.proofs.Cycle.{chain-starts}
 use Rattle.paper.proofs.Order.{order-exists, before-between}
 use Rattle.rows.specs.Rows.{kind_of}
 use Rattle.rows.proofs.Meets.{lt-or-le}
-use Rattle.net.specs.Inside.Net.{Chosen, Net}
+use Rattle.net.specs.declared.Net.{Net}
+use Rattle.net.specs.Inside.Net.{Chosen, IsNet}
 use Rattle.net.proofs.PriorIsBefore.{order-by-rows, cycle-by-rows}
 use Rattle.cycles.specs.Inside.Cyclic.{is_on_cycle, lowest_on_cycle}
 use Rattle.entries.specs.Front.{in_front}
@@ -122,7 +123,7 @@ module _ {rows reads chosen : List ℕ} {#V #N : ℕ} (c : Covered rows reads ch
   pub choice : Chosen rows chosen #N
   choice = chosen-rows p kinds
 
-  pub readied : {net : List ℕ} → Net rows chosen #N net → Followable rows reads chosen net #N
+  pub readied : {net : Net} → IsNet rows chosen #N net → Followable rows reads chosen net #N
   readied n = ready p choice n
 
   abbrev f : Formula

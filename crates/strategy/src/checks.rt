@@ -12,9 +12,10 @@ use crate::choice::first_stranger;
 use crate::Accepted;
 use cover::covering_of;
 use cycles::lowest_on_cycle;
+use fingers::Following;
 use keys::{keys_of, total_of};
 use marks::marks_of;
-use net::{NET_LENGTH, note_net};
+use net::{Choice, net_of};
 use ordering::order;
 use paper::{Label, Refusal};
 use paper::limits::{MOST_DEPTH, MOST_ROWS, MOST_TRANSITIONS, SLOTS};
@@ -49,13 +50,21 @@ fn ordered(
     requires { Covered rows.now reads.now chosen.now l.variables l.rows × Marked (map ℓ chosen.now) marks.now × (length out.old ≡ slots) }
     ensures { OrderedParts rows.now reads.now chosen.now l out.old out.new result }
 {
-    let n = l.rows as u16;
-    let mut net = [0u16; NET_LENGTH];
-    note_net(rows, chosen, n, &mut net);
+    let choice = Choice {
+        rows,
+        chosen,
+        n: l.rows as u16,
+    };
+    let net = net_of(&choice);
+    let following = Following {
+        choice,
+        reads,
+        net: &net,
+    };
     let mut reported = [0u16; SLOTS];
-    let placed = order(rows, reads, chosen, &net, n, &mut reported);
+    let placed = order(&following, &mut reported);
     if placed < chosen.len() {
-        let k = lowest_on_cycle(rows, reads, chosen, &net, n);
+        let k = lowest_on_cycle(&following);
         return Err(refusal_at(Fault::NoOrder, usize::from(chosen[k])));
     }
     let accepted = counted(rows, marks, l)?;

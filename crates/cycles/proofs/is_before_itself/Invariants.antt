@@ -9,8 +9,8 @@ use Rattle.cycles.proofs.is_before_itself.Given as goal
 
 abbrev pub invariant-loop-star : goal.invariant-loop-star
 invariant-loop-star l =
-    IsSpot l.rows l.chosen l.n l.star.0 (from_of l.rows l.star.0) (length l.chosen)
-    × (below l.rows l.reads l.chosen l.j l.star.0 ≡ prior l.rows l.reads l.chosen l.j l.j)
+    IsSpot l.g.choice.rows.now l.g.choice.chosen.now l.g.choice.n l.star.0 (from_of l.g.choice.rows.now l.star.0) (length l.g.choice.chosen.now)
+    × (below l.g.choice.rows.now l.g.reads.now l.g.choice.chosen.now l.j l.star.0 ≡ prior l.g.choice.rows.now l.g.reads.now l.g.choice.chosen.now l.j l.j)
 
 abbrev pub decreases-loop-star : goal.decreases-loop-star
 decreases-loop-star l = l.star.0

@@ -1,15 +1,11 @@
--- The loop's invariant: whether v is read from r on is whether it is read at all.
-use mathlib.Core.Path.{sym, ◌∙◌}
-use Rattle.fingers.proofs.GoesOn.{reads-hit, reads-miss, reads_none}
+-- A read is v if one of the reads between is.
+use Prim.Native.Nat.{◌-◌}
+use mathlib.Core.Path.{◌∙◌}
+use lib.ListN.{take, drop}
+use Rattle.fingers.specs.Inside.Spots.{reads_any}
+use Rattle.cycles.proofs.Loops.{some-is}
 use Rattle.cycles.proofs.is_read.Goals as goal
 
-pub returns-then-reads-r : goal.returns-then-reads-r
-returns-then-reads-r c =
-    sym (sym c.loop-r.invariant ∙ reads-hit _ _ _ _ c.loop-r-test.true c.requires c.if-reads-r.true)
-
-pub loop-r-preserved : goal.loop-r-preserved
-loop-r-preserved c =
-    reads-miss _ _ _ _ c.loop-r-test.true c.requires c.if-reads-r.false ∙ c.loop-r.invariant
-
 pub returns : goal.returns
-returns c = sym (sym c.loop-r.invariant ∙ reads_none _ _ _ _ c.loop-r-test.false)
+unfolding reads_any
+returns c = let a = c.args in c.contains.ensures.value ∙ some-is a.v.0 (take (a.to - a.from) (drop a.from a.reads.now))

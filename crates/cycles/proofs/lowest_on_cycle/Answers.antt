@@ -10,9 +10,8 @@ use Rattle.cycles.proofs.lowest_on_cycle.Goals as goal
 
 pub loop-root-init : goal.loop-root-init
 loop-root-init c =
-    let R = c.requires in
+    let R = c.args.g.now.ready in
     let s = R.choice.few in (
-      omega arith,
       empty-first _ _ (omega arith) (started _ _ _ _ _ _ _ R c.start.ensures),
       best-start _ _ (omega arith) c.first_self-best.ensures,
       λ i h. absurd (omega arith),
@@ -22,4 +21,4 @@ pub returns : goal.returns
 unfolding lowest_on_cycle is_on_cycle is_cyclic
 returns c =
     let v = c.loop-root.invariant in
-    best-first _ _ _ _ _ _ v.1 v.2 (λ i hi. v.3 i (omega (arith, c.loop-root-test.false))) ∙ first-same _ _ _ (λ k h. refl)
+    best-first _ _ _ _ _ _ v.0 v.1 (λ i hi. v.2 i (omega (arith, c.loop-root-test.false))) ∙ first-same _ _ _ (λ k h. refl)

@@ -5,5 +5,4 @@ use Rattle.cycles.proofs.settle.Goals as goal
 
 pub loop-p-preserved : goal.loop-p-preserved
 loop-p-preserved c =
-    let v = c.loop-p.invariant in
-    (omega arith, omega arith, settle-more _ _ _ _ _ _ v.1 (rw c.wide.ensures at c.least-r.ensures) v.2)
+    settle-more _ _ _ _ _ _ (omega arith) (rw c.from.ensures at c.min-r.ensures) c.loop-p.invariant

@@ -3,10 +3,10 @@ use borrow.Author.Tests.{eq-eqb, ne_eqb}
 use Rattle.fingers.specs.Inside.Graph.{outside}
 use Rattle.fingers.proofs.is_outside.Goals as goal
 
-pub returns-then-mark-i-eq1 : goal.returns-then-mark-i-eq1
+pub returns-then-m-ne1 : goal.returns-then-m-ne1
 unfolding outside
-returns-then-mark-i-eq1 c = simp (eq-eqb _ _ c.if-mark-i-eq1.true)
+returns-then-m-ne1 c = rw (← c.from-m.ensures, ne_eqb _ _ c.if-m-ne1.true)
 
-pub returns : goal.returns
+pub returns-else-m-ne1 : goal.returns-else-m-ne1
 unfolding outside
-returns c = simp (ne_eqb _ _ c.if-mark-i-eq1.false, c.wide.ensures)
+returns-else-m-ne1 c = rw (← c.from-m.ensures, eq-eqb _ _ c.if-m-ne1.false)

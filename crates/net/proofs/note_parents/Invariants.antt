@@ -1,10 +1,9 @@
--- The row over each row is noted, the rows before it having theirs.
-use Prim.Native.Nat.{◌-◌, ◌<◌}
-use Rattle.net.specs.Inside.Net.{Parents, Only, ParentWord}
+-- The rows over the rows before this one are noted. Row 0 has none, so that its word is 0.
+use Prim.Native.Nat.{◌+◌, ◌≤◌}
+use Rattle.paper.specs.Limits.{most_rows}
+use Rattle.rows.specs.Inside.Tree.{parent_of}
+use Rattle.net.specs.Inside.Net.{Words}
 use Rattle.net.proofs.note_parents.Given as goal
 
 abbrev pub invariant-loop-i : goal.invariant-loop-i
-invariant-loop-i l = (0 < l.i) × Parents l.rows l.i l.net × Only (ParentWord l.n) l.initial.net l.net
-
-abbrev pub decreases-loop-i : goal.decreases-loop-i
-decreases-loop-i l = l.n - l.i
+invariant-loop-i l = (l.i ≤ l.c.n + 1) × Words most_rows (parent_of l.c.rows.now) l.i l.parents

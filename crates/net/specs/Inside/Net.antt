@@ -1,27 +1,15 @@
--- The net: numbers kept beside the rows so that "before" can be followed without walking from the root. Its words are, one
--- after another: for each of 4,096 rows the row over it and the star of its innermost guard (0 for none); for each of 2,048
--- chosen labels the index of the next one with its variable, and for each of 1,024 variables the index of its first
--- chosen label (the number of chosen labels for none).
-use Rattle.std.specs.Prelude.{ℕ, ◌+◌, ◌-◌, ◌<◌, ◌≤◌, true, false, cond, ◌&&◌, ◌⊎◌, ◌≡◌, List, eqb, ltb, length, get_or}
+-- The net: numbers kept beside the rows so that "before" can be followed without walking from the root. For each of 4,096
+-- rows it has the row over it and the star of its innermost guard (0 for none); for each of 2,048 chosen labels the index of the
+-- next one with its variable, and for each of 1,024 variables the index of its first chosen label (the number of chosen
+-- labels for none).
+use Rattle.std.specs.Prelude.{ℕ, ◌+◌, ◌-◌, ◌<◌, ◌≤◌, true, false, cond, ◌&&◌, ◌≡◌, List, eqb, ltb, length, get_or}
 use Rattle.paper.specs.Limits.{most_candidates, most_rows, most_variables, slots}
 use Rattle.entries.specs.First.{first}
 use Rattle.rows.specs.Rows.{kind_of, arg_of, end_of}
 use Rattle.rows.specs.Inside.Looks.{Nested}
 use Rattle.rows.specs.Inside.Tree.{is_under, parent_of, guard_of}
+use Rattle.net.specs.declared.Net.{Net}
 use Rattle.net.specs.Inside.Prior.{over_both, share_branch_in}
-
--- where each part begins, and the whole length
-abbrev pub guards_from : ℕ
-guards_from = most_rows
-
-abbrev pub nexts_from : ℕ
-nexts_from = guards_from + most_rows
-
-abbrev pub firsts_from : ℕ
-firsts_from = nexts_from + slots
-
-abbrev pub net_length : ℕ
-net_length = firsts_from + most_variables
 
 -- Rows of one tree: nested, the first over all others, with no row under the star of an exists or an IF, and none under a
 -- candidate but its star.
@@ -42,44 +30,43 @@ pub record Chosen (rows chosen : List ℕ) (#N : ℕ) : Type 0 where
   pub candidates : (k : ℕ) → k < length chosen → kind_of rows (get_or chosen k 0) ≡ 2
   pub variables : (k : ℕ) → k < length chosen → arg_of rows (get_or chosen k 0) < most_variables
 
--- the part of the net that has the row over each row, and the part that has each row's innermost guard
-pub record Parents (rows : List ℕ) (#N : ℕ) (net : List ℕ) : Type 0 where
-  pub size : length net ≡ net_length
-  pub parents : (i : ℕ) → 0 < i → i < #N → get_or net i 0 ≡ parent_of rows i
+-- the words that have the row over each row, and those that have each row's innermost guard
+pub record Parents (rows : List ℕ) (#N : ℕ) (words : List ℕ) : Type 0 where
+  pub size : length words ≡ most_rows
+  pub parents : (i : ℕ) → 0 < i → i < #N → get_or words i 0 ≡ parent_of rows i
 
-pub record Guards (rows : List ℕ) (#N : ℕ) (net : List ℕ) : Type 0 where
-  pub guards : (i : ℕ) → i < #N → get_or net (guards_from + i) 0 ≡ guard_of rows i
+pub record Guards (rows : List ℕ) (#N : ℕ) (words : List ℕ) : Type 0 where
+  pub size : length words ≡ most_rows
+  pub guards : (i : ℕ) → i < #N → get_or words i 0 ≡ guard_of rows i
+
+-- so many words: f of its position in each of the first #M, and 0 in the others
+pub record Words (#L : ℕ) (f : ℕ → ℕ) (#M : ℕ) (words : List ℕ) : Type 0 where
+  pub size : length words ≡ #L
+  pub given : (i : ℕ) → i < #M → get_or words i 0 ≡ f i
+  pub others : (i : ℕ) → #M ≤ i → get_or words i 0 ≡ 0
 
 module _ (rows chosen : List ℕ) where
   -- the index of the first chosen label of v from index k on, or how many there are
   unfoldable pub first_with : ℕ → ℕ → ℕ
   first_with v k = k + first (λ m. eqb (arg_of rows (get_or chosen (k + m) 0)) v) (length chosen - k)
 
-  pub record Net (#N : ℕ) (net : List ℕ) : Type 0 where
-    pub parents : Parents rows #N net
-    pub guards : Guards rows #N net
-    pub nexts : (k : ℕ) → k < length chosen → get_or net (nexts_from + k) 0 ≡ first_with (arg_of rows (get_or chosen k 0)) (k + 1)
-    pub firsts : (v : ℕ) → v < most_variables → get_or net (firsts_from + v) 0 ≡ first_with v 0
+  -- the index of the next chosen label with the variable of the k-th
+  abbrev pub next_with : ℕ → ℕ
+  next_with k = first_with (arg_of rows (get_or chosen k 0)) (k + 1)
 
--- the words of each part that a net of so many rows and chosen labels gives; those of the variables it gives all
-abbrev pub ParentWord : ℕ → ℕ → Type 0
-ParentWord #N i = (0 < i) × (i < #N)
+  -- what is asked of a net: its words for the rows there are, for the chosen labels and for the variables
+  pub record IsNet (#N : ℕ) (net : Net) : Type 0 where
+    pub parents : Parents rows #N net.parents
+    pub guards : Guards rows #N net.guards
+    pub nexts : (k : ℕ) → k < length chosen → get_or net.nexts k 0 ≡ next_with k
+    pub firsts : (v : ℕ) → v < most_variables → get_or net.firsts v 0 ≡ first_with v 0
 
-abbrev pub GuardWord : ℕ → ℕ → Type 0
-GuardWord #N i = (guards_from ≤ i) × (i ≤ guards_from + (#N - 1))
-
-abbrev pub IndexWord : ℕ → ℕ → Type 0
-IndexWord #S i = ((nexts_from ≤ i) × (i < nexts_from + #S)) ⊎ (firsts_from ≤ i)
-
--- a word that is not given is as it was
-pub record Only (Given : ℕ → Type 0) (old net : List ℕ) : Type 0 where
-  pub stays : (i : ℕ) → (Given i → ⊥) → get_or net i 0 ≡ get_or old i 0
-
--- The net afterwards, and every word that it does not give as it was before. Row 0 has no guard.
-pub record Noted (rows chosen : List ℕ) (#N : ℕ) (old net : List ℕ) : Type 0 where
-  pub noted : Net rows chosen #N net
-  pub unguarded : get_or net guards_from 0 ≡ 0
-  pub others : Only (λ i. ParentWord #N i ⊎ (GuardWord #N i ⊎ IndexWord (length chosen) i)) old net
+  -- the net that is made, word by word: those past the rows and past the chosen labels are 0
+  pub record Noted (#N : ℕ) (net : Net) : Type 0 where
+    pub parents : Words most_rows (parent_of rows) #N net.parents
+    pub guards : Words most_rows (guard_of rows) #N net.guards
+    pub nexts : Words slots next_with (length chosen) net.nexts
+    pub firsts : Words most_variables (λ v. first_with v 0) most_variables net.firsts
 
 module _ (rows : List ℕ) where
   -- the first row past row a whose subtree holds row j

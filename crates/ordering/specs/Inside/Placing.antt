@@ -1,5 +1,5 @@
 -- What the code keeps while it places indices in the reported order.
-use Rattle.std.specs.Prelude.{ℕ, ◌+◌, ◌-◌, ◌<◌, ◌≤◌, Bool, true, false, ◌≡◌, List, ◌++◌, eqb, length, get_or, take, drop}
+use Rattle.std.specs.Prelude.{ℕ, ◌+◌, ◌-◌, ◌<◌, ◌≤◌, Bool, true, false, ◌≡◌, List, ◌++◌, eqb, length, get_or, take, drop, Option, Some, None}
 use Rattle.paper.specs.Limits.{slots}
 use Rattle.paper.specs.Order.{greedy_by}
 use Rattle.paper.specs.Lists.{up_to}
@@ -42,11 +42,16 @@ pub record Visited (g : Graph) (k : ℕ) (placed finger wait low : List ℕ) (r 
   pub passed : r ≡ false → State g (k + 1) placed finger wait low
   pub ready : r ≡ true → IsReady g placed finger k
 
--- k is the lowest index that is ready, or the size
-pub record Lowest (g : Graph) (placed finger wait low : List ℕ) (k : ℕ) : Type 0 where
+-- k is an index that is ready, and those below it that are not placed wait
+pub record Ready (g : Graph) (k : ℕ) (placed finger wait low : List ℕ) : Type 0 where
+  pub inside : k < g.size
   pub state : State g k placed finger wait low
-  pub to : k ≤ g.size
-  pub ready : k < g.size → IsReady g placed finger k
+  pub ready : IsReady g placed finger k
+
+-- the lowest index that is ready; where none is, all that are not placed wait
+abbrev pub Lowest : Graph → List ℕ → List ℕ → List ℕ → List ℕ → Option ℕ → Type 0
+Lowest g placed finger wait low None = State g g.size placed finger wait low
+Lowest g placed finger wait low (Some k) = Ready g k placed finger wait low
 
 -- the order of the indices that are left, m of them at most
 abbrev pub rest : Graph → ℕ → List ℕ → List ℕ

@@ -6,20 +6,17 @@ use Rattle.std.specs.Prelude.{Err}
 use Rattle.std.proofs.lemmas.Result.{err_from_is_err_and}
 use Rattle.paper.specs.declared.refusals.Fault.TheVariants.{NoOrder}
 use Rattle.paper.specs.Refusals.{refusal}
+use Rattle.net.proofs.Notes.{is_net}
 use Rattle.strategy.proofs.Held.{walkable}
 use Rattle.strategy.proofs.Placed.{choice, readied}
 use Rattle.strategy.proofs.Answers.{cycle-there, cycle-refused, count-refused, count-accepted}
 use Rattle.strategy.proofs.checks.ordered.Goals as goal
 
-pub note_net-requires : goal.note_net-requires
-note_net-requires c = (choice c.requires.0, refl)
+pub invariant_of-choice : goal.invariant_of-choice
+invariant_of-choice c = record { made = choice c.requires.0 }
 
-pub order-placed-requires : goal.order-placed-requires
-order-placed-requires c = (readied c.requires.0 c.note_net.ensures.noted, refl)
-
-pub lowest_on_cycle-k-requires : goal.lowest_on_cycle-k-requires
-lowest_on_cycle-k-requires c =
-    readied c.requires.0 c.note_net.ensures.noted
+pub invariant_of-following : goal.invariant_of-following
+invariant_of-following c = record { ready = readied c.requires.0 (is_net c.net_of-net.ensures) }
 
 pub offset_bounds-chosen-k : goal.offset_bounds-chosen-k
 offset_bounds-chosen-k c =

@@ -3,13 +3,13 @@
 use Prim.Native.Nat.{◌/◌, ◌%◌}
 use Rattle.fingers.specs.Inside.Graph.{outside}
 use Rattle.fingers.specs.Inside.Spots.{ahead, Apart, Sought}
-use Rattle.fingers.proofs.seek.Given as goal
+use Rattle.fingers.proofs.Following.seek.Given as goal
 
 abbrev pub invariant-loop-p : goal.invariant-loop-p
 invariant-loop-p l =
-    Sought l.rows l.reads l.chosen l.n (outside l.mark l.b) l.j (l.finger / 4294967296) (l.finger / 65536 % 65536) (l.finger % 65536)
+    Sought l.self.choice.rows.now l.self.reads.now l.self.choice.chosen.now l.self.choice.n (outside l.mark l.b) l.j (l.finger / 4294967296) (l.finger / 65536 % 65536) (l.finger % 65536)
     l.p.star.0 l.p.read l.p.next
-    × Apart l.rows l.chosen l.j l.seen.from.0 l.seen.to.0
+    × Apart l.self.choice.rows.now l.self.choice.chosen.now l.j l.known.from.0 l.known.to.0
 
 abbrev pub decreases-loop-p : goal.decreases-loop-p
-decreases-loop-p l = ahead l.rows l.chosen l.p.star.0 l.p.read l.p.next
+decreases-loop-p l = ahead l.self.choice.rows.now l.self.choice.chosen.now l.p.star.0 l.p.read l.p.next
