@@ -9,93 +9,62 @@
 // line the column is printed where that shows.
 #![tactic(auto)]
 
-mod heading; // what stands between a request and the words
 mod lent; // the requests that fill a lent slice
 mod reading; // the list, read
 mod requests; // the requests, and what is printed of their answers
-mod scan; // lines, fields, signs and numbers
+mod scan; // fields and numbers
 mod words; // the words of a table, as a line writes them
 mod write; // printing
 
-ghost use Rattle.std.specs.Prelude.{◌≤◌, length};
+ghost use Rattle.std.specs.Prelude.{◌≤◌, IfErr, length};
 
-use heading::{Heading, heading_at};
 use reading::read_full;
-use requests::{request_of, run, takes};
-use scan::{END, FIELD, GAP, find};
-use words::lay_out;
+use requests::Request;
+use scan::{skip_gap, split_field};
+use words::Words;
 
-// Room for a list.
-fn list_room() -> [u8; 262144] {
-    [0; 262144]
-}
+// The longest list, and one byte more.
+const LIST: usize = 262144;
 
-// Room for the words of a table.
-fn words_room() -> [u16; 32768] {
-    [0; 32768]
-}
-
-// Makes a request with the words that follow a heading.
-fn run_words(rt: &impl Print, line: &[u8], request: usize, heading: Heading)
-    requires { heading.body ≤ length line.now }
+// Reads a request, and its words into `words`; where that fails, gives the text from there on.
+fn read_case<'a>(text: &'a [u8], words: &mut Words) -> Result<Request, &'a [u8]>
+    ensures { IfErr result (λ r. length r.now ≤ length text.now) }
 {
-    let mut words = words_room();
-    let place = lay_out(line, heading.body, &mut words);
-    if place.at < line.len() {
-        write::malformed(rt, place.at + 1);
-        return;
-    }
-    let count = place.count;
-    run(rt, request, heading.first, heading.second, &words[..count]);
+    let here = skip_gap(text);
+    let (request, body) = Request::parse(here).ok_or(here)?;
+    words.lay_out(body)?;
+    Ok(request)
 }
 
-// Runs the case of a line whose name ends at `at`.
-fn run_case(rt: &impl Print, line: &[u8], at: usize)
-    requires { at ≤ length line.now }
+// Runs the case of a line whose name is read; `text` is behind it.
+fn run_case(rt: &impl Print, line: &[u8], text: &[u8])
+    requires { length text.now ≤ length line.now }
 {
-    let from = find(line, at, FIELD);
-    let end = find(line, from, GAP);
-    let request = request_of(&line[from..end]);
-    let heading = heading_at(line, end);
-    if takes(request, heading) {
-        run_words(rt, line, request, heading);
-    } else {
-        write::malformed(rt, from + 1);
+    let mut words = Words::new();
+    match read_case(text, &mut words) {
+        Ok(request) => request.run(rt, words.laid()),
+        Err(rest) => write::malformed(rt, line.len() - rest.len() + 1),
     }
 }
 
-// Whether a line is a case, and neither empty nor a comment; its first field begins at `from`.
-fn is_case(line: &[u8], from: usize) -> bool {
-    from < line.len() && line[from] != b'#'
-}
-
-// Runs a line, if it is a case.
+// Runs a line, if it is a case, and neither empty nor a comment.
 fn run_line(rt: &impl Print, line: &[u8]) {
-    let from = find(line, 0, FIELD);
-    if !is_case(line, from) {
+    let (name, text) = split_field(skip_gap(line));
+    if matches!(name, [] | [b'#', ..]) {
         return;
     }
-    let end = find(line, from, GAP);
-    write::text(rt, &line[from..end]);
-    run_case(rt, line, end);
+    write::text(rt, name);
+    run_case(rt, line, text);
     write::text(rt, b"\n");
 }
 
-// Runs all lines of a list.
-fn run_list(rt: &impl Print, list: &[u8]) {
-    let mut at = 0;
-    while at < list.len() {
-        let end = find(list, at, END);
-        run_line(rt, &list[at..end]);
-        at = end + 1;
-    }
-}
-
 fn main(rt: HostRuntime) {
-    let mut list = list_room();
+    let mut list = [0; LIST];
     let n = read_full(&mut rt.stdin(), &mut list);
-    run_list(&rt, &list[..n]);
-    if n == list.len() {
+    for line in list[..n].split(|b| *b == b'\n') {
+        run_line(&rt, line);
+    }
+    if n == LIST {
         write::text(&rt, b"the list is too long\n");
     }
 }

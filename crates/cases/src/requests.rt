@@ -1,73 +1,77 @@
 // The requests that a case can make of the library, and what is printed of their answers.
-use crate::heading::Heading;
-use crate::scan::{GAP, find, is_word};
+ghost use Rattle.std.specs.Prelude.{◌≤◌, IfSome, length};
+
+use crate::scan::{next_number, skip_gap, split_field};
 use crate::{lent, write};
 use reader::Row;
 
-// The requests, by their numbers in the list of names.
-const CHECK: usize = 0;
+// A request, with its numbers.
+#[derive(Clone, Copy, PartialEq, Eq)]
+pub enum Request {
+    Check,
+    Judge,
+    Order { len: usize },
+    Transition { k: usize, len: usize },
+    Assignments { k: usize, len: usize },
+    Row { label: usize },
+    Past { label: usize },
+}
 
-const JUDGE: usize = 1;
-
-const ORDER: usize = 2;
-
-const TRANSITION: usize = 3;
-
-const ASSIGNMENTS: usize = 4;
-
-const ROW: usize = 5;
-
-const PAST: usize = 6;
-
-// The number of the request that a field names; past the last where it names none.
-pub fn request_of(field: &[u8]) -> usize {
-    let names: &[u8] = b"check judge order transition assignments row past";
-    let mut request = 0;
-    let mut at = 0;
-    while at < names.len() {
-        let end = find(names, at, GAP);
-        if is_word(field, &names[at..end]) {
-            break;
+impl Request {
+    // The request of this name with these numbers. There is none of another name or with other numbers, nor one that would lend more
+    // than there is.
+    fn named(name: &[u8], first: Option<usize>, second: Option<usize>) -> Option<Request> {
+        match (name, first, second) {
+            (b"check", None, None) => Some(Request::Check),
+            (b"judge", None, None) => Some(Request::Judge),
+            (b"order", Some(len), None) if len <= lent::ROOM => Some(Request::Order { len }),
+            (b"transition", Some(k), Some(len)) if len <= lent::ROOM => Some(Request::Transition {
+                k,
+                len,
+            }),
+            (b"assignments", Some(k), Some(len)) if len <= lent::ROOM => Some(Request::Assignments {
+                k,
+                len,
+            }),
+            (b"row", Some(label), None) => Some(Request::Row { label }),
+            (b"past", Some(label), None) => Some(Request::Past { label }),
+            _ => None,
         }
-        request += 1;
-        at = end + 1;
     }
-    request
-}
 
-// Whether a request can be made with the numbers of a heading.
-pub fn takes(request: usize, heading: Heading) -> bool {
-    let numbers = heading.numbers;
-    match request {
-        CHECK | JUDGE => numbers == 0,
-        ORDER => numbers == 1 && heading.first <= lent::ROOM,
-        TRANSITION | ASSIGNMENTS => numbers == 2 && heading.second <= lent::ROOM,
-        ROW | PAST => numbers == 1,
-        _ => false,
+    // The request that a text begins with, its numbers and a colon, and what is behind them.
+    pub fn parse(text: &[u8]) -> Option<(Request, &[u8])>
+        ensures { IfSome result (λ r. length r.1.now ≤ length text.now) }
+    {
+        let (name, rest) = split_field(text);
+        let (first, rest) = next_number(rest);
+        let (second, rest) = next_number(rest);
+        let words = skip_gap(rest).strip_prefix(b":")?;
+        Some((Request::named(name, first, second)?, words))
     }
-}
 
-// Makes a request of the library with the numbers of its heading, and prints what it gives.
-pub fn run(rt: &impl Print, request: usize, first: usize, second: usize, words: &[u16]) {
-    match request {
-        CHECK => check(rt, words),
-        JUDGE => judge(rt, words),
-        ORDER => lent::order(rt, words, first),
-        TRANSITION => lent::transition(rt, words, first, second),
-        ASSIGNMENTS => lent::assignments(rt, words, first, second),
-        ROW => row(rt, reader::row_of(words, first)),
-        PAST => row(rt, reader::row_past(words, first)),
-        _ => {}
+    // Makes the request of the library, and prints what it gives.
+    pub fn run(self, rt: &impl Print, words: &[u16]) {
+        match self {
+            Request::Check => check(rt, words),
+            Request::Judge => judge(rt, words),
+            Request::Order { len } => lent::order(rt, words, len),
+            Request::Transition { k, len } => lent::transition(rt, words, k, len),
+            Request::Assignments { k, len } => lent::assignments(rt, words, k, len),
+            Request::Row { label } => row(rt, reader::row_of(words, label)),
+            Request::Past { label } => row(rt, reader::row_past(words, label)),
+        }
     }
 }
 
 // What the table layer says of the words.
 fn check(rt: &impl Print, words: &[u16]) {
-    let found = table::check(words);
-    match found {
+    match table::check(words) {
         Ok(l) => {
-            write::text(rt, b" sound");
-            write::four(rt, l.variables, l.reads, l.rows, l.chosen);
+            let _ = print!(rt;
+                " sound {} {} {} {}",
+                l.variables, l.reads, l.rows, l.chosen
+            );
         }
         Err(r) => write::refusal(rt, r),
     }
@@ -75,11 +79,12 @@ fn check(rt: &impl Print, words: &[u16]) {
 
 // What judge says of the words.
 fn judge(rt: &impl Print, words: &[u16]) {
-    let found = nocturenc::requests::judge(words);
-    match found {
+    match nocturenc::requests::judge(words) {
         Ok(c) => {
-            write::text(rt, b" accepted");
-            write::four(rt, c.variables, c.rows, c.chosen, c.transitions);
+            let _ = print!(rt;
+                " accepted {} {} {} {}",
+                c.variables, c.rows, c.chosen, c.transitions
+            );
         }
         Err(r) => write::refusal(rt, r),
     }
@@ -89,12 +94,10 @@ fn judge(rt: &impl Print, words: &[u16]) {
 fn row(rt: &impl Print, found: Option<Row>) {
     match found {
         Some(r) => {
-            write::text(rt, b" row");
-            write::word(rt, r.label.0);
-            write::word(rt, r.kind);
-            write::word(rt, r.arg);
-            write::word(rt, r.end.0);
-            write::word(rt, r.from);
+            let _ = print!(rt;
+                " row {} {} {} {} {}",
+                r.label.0, r.kind, r.arg, r.end.0, r.from
+            );
         }
         None => write::text(rt, b" absent"),
     }

@@ -1,167 +1,129 @@
 // The words of a table, as a line writes them: numbers, `A..B` for the numbers from A to B, and `C*( .. )` for a group that
 // is repeated C times. An entry of a group is a number, or `A+D` for A + i * D in the i-th repetition, i from 0.
-ghost use Rattle.std.specs.Prelude.{◌-◌, ◌≤◌, length};
-ghost use Rattle.cases.specs.Scan.{Laid};
+ghost use Rattle.std.specs.Prelude.{◌<◌, ◌≤◌, IfSome, IfErr, length};
 
-use crate::scan::{FIELD, Number, after, after_both, find, number_at};
+use crate::scan::{number, skip_gap};
 
-// Where laying out words has come to in the line, and how many there are; `at` is 0 where what stands there makes no words.
-#[derive(Clone, Copy)]
-pub struct Place {
-    pub at: usize,
-    pub count: usize,
-}
+// Room for the words of the longest input, and for as many repetitions of a group.
+const ROOM: usize = 32768;
 
-// How many words the numbers from `low` to `high` make; 0 where they are none, one of them is no word, or there is no room.
-fn many(low: usize, high: usize, room: usize) -> usize
-    ensures { (result ≤ room) × (result ≤ 65536 - low) }
+// The word that a text begins with, and what is behind it.
+fn word(text: &[u8]) -> Option<(u16, &[u8])>
+    ensures { IfSome result (λ r. length r.1.now < length text.now) }
 {
-    if high < low {
-        return 0;
-    }
-    if 65535 < high {
-        return 0;
-    }
-    if room <= high - low {
-        return 0;
-    }
-    high - low + 1
+    let (n, rest) = number(text)?;
+    Some((u16::try_from(n).ok()?, rest))
 }
 
-// Puts the words from `low` to the last number after n words.
-fn put_range(words: &mut [u16], n: usize, low: usize, last: Number) -> Place
-    requires { n ≤ length words.old }
-    ensures { Laid last.end (length words.old) result.at result.count }
+// The entry of a group that a text begins with, in the i-th repetition, and what is behind it.
+fn entry(text: &[u8], i: u16) -> Option<(u16, &[u8])>
+    ensures { IfSome result (λ r. length r.1.now < length text.now) }
 {
-    let more = many(low, last.value, words.len() - n);
-    if more == 0 {
-        return Place { at: 0, count: n };
-    }
-    let mut i = 0;
-    while i < more {
-        words[n + i] = (low + i) as u16;
-        i += 1;
-    }
-    Place {
-        at: last.end,
-        count: n + more,
-    }
+    let (base, rest) = word(text)?;
+    let Some(step) = rest.strip_prefix(b"+") else {
+        return Some((base, rest));
+    };
+    let (step, rest) = word(step)?;
+    Some((base.checked_add(step.checked_mul(i)?)?, rest))
 }
 
-// base + i * step; 65536, which is no word, where one of the three is none.
-fn stepped(base: usize, step: usize, i: usize) -> usize {
-    if 65535 < base {
-        return 65536;
-    }
-    if 65535 < step {
-        return 65536;
-    }
-    if 65535 < i {
-        return 65536;
-    }
-    base + i * step
+// The words that are laid out so far, in front of the room for them. What makes no words, or has no room, gives nothing.
+#[derive(Drop)]
+pub struct Words {
+    room: [u16; ROOM],
+    count: usize,
+    ghost within: { count ≤ 32768 },
 }
 
-// An entry of a group in its i-th repetition.
-fn entry_at(line: &[u8], at: usize, i: usize) -> Number
-    requires { at ≤ length line.now }
-    ensures { result.end ≤ length line.now }
-{
-    let base = number_at(line, at);
-    let plus = after(line, base.end, b'+');
-    if plus == base.end {
-        return base;
-    }
-    let step = number_at(line, plus);
-    Number {
-        value: stepped(base.value, step.value, i),
-        end: step.end,
-    }
-}
-
-// Puts the entries of a group from `at` to its closing sign, in its i-th repetition.
-fn put_entries(line: &[u8], at: usize, words: &mut [u16], n: usize, i: usize) -> Place
-    requires { (at ≤ length line.now) × (n ≤ length words.old) }
-    ensures { Laid (length line.now) (length words.old) result.at result.count }
-{
-    let mut here = find(line, at, FIELD);
-    let mut count = n;
-    while after(line, here, b')') == here {
-        let entry = entry_at(line, here, i);
-        let place = put_range(words, count, entry.value, entry);
-        if place.at <= here {
-            return Place { at: 0, count };
+impl Words {
+    // No words.
+    pub fn new() -> Words {
+        Words {
+            room: [0; ROOM],
+            count: 0,
         }
-        count = place.count;
-        here = find(line, place.at, FIELD);
     }
-    Place {
-        at: here + 1,
-        count,
-    }
-}
 
-// Puts a group whose entries begin at `at`, repeated so many times.
-fn put_group(line: &[u8], at: usize, times: usize, words: &mut [u16], n: usize) -> Place
-    requires { (at ≤ length line.now) × (n ≤ length words.old) }
-    ensures { Laid (length line.now) (length words.old) result.at result.count }
-{
-    let mut place = Place { at: 0, count: n };
-    if 32768 < times {
-        return place;
+    // The words.
+    pub fn laid(&self) -> &[u16] {
+        &self.room[..self.count]
     }
-    let mut i = 0;
-    while i < times {
-        place = put_entries(line, at, words, place.count, i);
-        if place.at == 0 {
-            break;
+
+    // Puts a word.
+    fn push(&mut self, word: u16) -> Option<()> {
+        *self.room.get_mut(self.count)? = word;
+        self.count += 1;
+        Some(())
+    }
+
+    // Puts the words from the first to the last, one at least.
+    fn push_range(&mut self, first: u16, last: u16) -> Option<()> {
+        if last < first {
+            return None;
         }
-        i += 1;
-    }
-    place
-}
-
-// The last number of a range that begins with this one; of a number alone, that number.
-fn last_at(line: &[u8], first: Number) -> Number
-    requires { first.end ≤ length line.now }
-    ensures { result.end ≤ length line.now }
-{
-    let end = first.end;
-    let dots = after_both(line, end, b'.', b'.');
-    if end < dots {
-        return number_at(line, dots);
-    }
-    first
-}
-
-// Puts the item at `at`: a group, the numbers from one to another, or a number.
-fn put_item(line: &[u8], at: usize, words: &mut [u16], n: usize) -> Place
-    requires { (at ≤ length line.now) × (n ≤ length words.old) }
-    ensures { Laid (length line.now) (length words.old) result.at result.count }
-{
-    let first = number_at(line, at);
-    let end = first.end;
-    let inside = after_both(line, end, b'*', b'(');
-    if end < inside {
-        return put_group(line, inside, first.value, words, n);
-    }
-    put_range(words, n, first.value, last_at(line, first))
-}
-
-// Lays out the words of the line from `at` on. Where not all makes words, `at` is where what does not begins.
-pub fn lay_out(line: &[u8], at: usize, words: &mut [u16]) -> Place
-    requires { at ≤ length line.now }
-    ensures { result.count ≤ length words.old }
-{
-    let mut here = find(line, at, FIELD);
-    let mut count = 0;
-    while here < line.len() {
-        let place = put_item(line, here, words, count);
-        if place.at <= here {
-            break;
+        for word in first..=last {
+            self.push(word)?;
         }
-        count = place.count;
-        here = find(line, place.at, FIELD);
+        Some(())
     }
-    Place { at: here, count }
+
+    // Puts the entries of a group up to its closing sign, in its i-th repetition; gives what is behind the group.
+    fn push_entries<'a>(&mut self, text: &'a [u8], i: u16) -> Option<&'a [u8]>
+        ensures { IfSome result (λ r. length r.now < length text.now) }
+    {
+        let mut here = skip_gap(text);
+        loop {
+            if let Some(rest) = here.strip_prefix(b")") {
+                return Some(rest);
+            }
+            let (word, rest) = entry(here, i)?;
+            self.push(word)?;
+            here = skip_gap(rest);
+        }
+    }
+
+    // Puts a group whose entries a text begins with, repeated so many times, once at least; gives what is behind it.
+    fn push_group<'a>(&mut self, text: &'a [u8], times: u16) -> Option<&'a [u8]>
+        ensures { IfSome result (λ r. length r.now < length text.now) }
+    {
+        if ROOM < usize::from(times) {
+            return None;
+        }
+        let mut behind = None;
+        for i in 0..times {
+            behind = Some(self.push_entries(text, i)?);
+        }
+        behind
+    }
+
+    // Puts the item that a text begins with: a group, the numbers from one to another, or a number; gives what is behind it.
+    fn push_item<'a>(&mut self, text: &'a [u8]) -> Option<&'a [u8]>
+        ensures { IfSome result (λ r. length r.now < length text.now) }
+    {
+        let (first, rest) = word(text)?;
+        if let Some(group) = rest.strip_prefix(b"*(") {
+            return self.push_group(group, first);
+        }
+        let Some(last) = rest.strip_prefix(b"..") else {
+            self.push(first)?;
+            return Some(rest);
+        };
+        let (last, rest) = word(last)?;
+        self.push_range(first, last)?;
+        Some(rest)
+    }
+
+    // Lays out all words of a text; where not all of it makes words, gives what does not.
+    pub fn lay_out<'a>(&mut self, text: &'a [u8]) -> Result<(), &'a [u8]>
+        ensures { IfErr result (λ r. length r.now ≤ length text.now) }
+    {
+        let mut here = skip_gap(text);
+        while !here.is_empty() {
+            let Some(rest) = self.push_item(here) else {
+                return Err(here);
+            };
+            here = skip_gap(rest);
+        }
+        Ok(())
+    }
 }

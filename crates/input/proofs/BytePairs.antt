@@ -6,6 +6,7 @@ use mathlib.Core.Path.{◌≡◌, refl, sym, ap, ◌∙◌}
 use mathlib.Core.List.{List, [], ◌∷◌}
 use lib.ListN.{length, get_or, take, drop, set}
 use lib.Seq.{take_at}
+use Rattle.std.specs.Int.{w16, from_le_bytes}
 use Rattle.input.specs.Inside.Copied.{copied}
 use Rattle.input.proofs.Copies.{copied_all, Copying, copy-goes-on, copy-ends}
 use Rattle.input.specs.Bytes.{words_of}
@@ -26,6 +27,10 @@ word_at (low ∷ high ∷ bytes) (suc i) h =
     let behind : 2 * suc i + 1 ≡ suc (suc (2 * i + 1)) = omega arith in
     let first : 2 * suc i ≡ suc (suc (2 * i)) = omega arith in
     rw (behind, first) (word_at bytes i (omega arith))
+
+-- the word that the library makes of two bytes
+pub word-of : (low high : ℕ) {w : ℕ} → w ≡ from_le_bytes w16 (low ∷ high ∷ []) → w ≡ low + 256 * high
+word-of low high e = e ∙ omega arith
 
 -- the words are put one after another, as if they were copied
 abbrev pub Putting : List ℕ → List ℕ → List ℕ → ℕ → Type 0

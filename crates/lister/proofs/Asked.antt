@@ -1,6 +1,6 @@
 -- What listing bytes asks for is there: their words and their judgement, and of accepted ones their order, the bounds of their counts, what
 -- their lines are worked out from, and room.
-use Prim.Native.Nat.{ℕ, ◌+◌, ◌*◌, ◌/◌, ◌≤◌}
+use Prim.Native.Nat.{ℕ, ◌+◌, ◌*◌, ◌/◌, ◌^◌, ◌<◌, ◌≤◌}
 use native.Mathlib.Omega.{arith}
 use mathlib.Core.Path.{◌≡◌, refl, sym, ap, subst, ◌∙◌}
 use mathlib.Core.Bool.{Bool, true, false, cond}
@@ -20,7 +20,7 @@ use Rattle.answers.specs.declared.numbered.Basis.{Basis}
 use Rattle.answers.specs.Inside.Judged.{AcceptedAs, Ordered, BasedExactly}
 use Rattle.answers.proofs.Accepted.{is-understood, few-transitions, few-chosen, reported-length, order-in-front, front-as-long}
 use Rattle.answers.proofs.Keeping.{is-based}
-use Rattle.lister.specs.Inside.Steps.{Headed, ListableIf, BasedIf, longest, Prepared}
+use Rattle.lister.specs.Inside.Steps.{ListableIf, BasedIf, longest, Prepared}
 use Rattle.std.specs.Prelude.{Result, Ok, Err}
 
 -- what the judgement of bytes leaves
@@ -56,19 +56,26 @@ module _ {bytes order₀ order : List ℕ} {r : Result Accepted Refusal} (j : Ju
       go (Err x) e = ap length (j.left_so ∙ ap (λ r. left_by r (order_in (words_of bytes)) order₀) e) ∙ n
       go (Ok a) e = front-as-long (words_of bytes) order₀ order a (accepted-words a e) (stands a e) n
 
--- the first two lines of an accepted table can be put
-pub headed : {words order text : List ℕ} {a : Accepted} → Ordered words a order → length text ≡ 65536 → Headed a order text
-headed {words} {order} {a = a} o room =
-    let u = is-understood words a o.accepted in
-    let n = ap length o.is_in_front ∙ length-map (reported words a.layout) (λ i. i.0) ∙ reported-length words a o.accepted in
-    record {
-      variables_fit = u.at_most_variables;
-      rows_fit = u.at_most_rows;
-      chosen_fit = few-chosen words a o.accepted;
-      transitions_fit = few-transitions words a o.accepted;
-      order_there = omega (arith, simp length-take at n);
-      room = room;
-    }
+-- the counts fit, and the order is there
+module _ {words order : List ℕ} {a : Accepted} (o : Ordered words a order) where
+  pub counts-fit : (a.layout.variables < 2 ^ 32) × (a.layout.rows < 2 ^ 32) × (a.layout.chosen < 2 ^ 32) × (a.transitions < 2 ^ 32)
+  counts-fit =
+      let u = is-understood words a o.accepted in
+      let chosen = few-chosen words a o.accepted in
+      let transitions = few-transitions words a o.accepted in
+      (omega (arith, u.at_most_variables), omega (arith, u.at_most_rows), omega arith, omega arith)
+
+  pub order-there : a.layout.chosen ≤ length order
+  order-there =
+      let n = ap length o.is_in_front ∙ length-map (reported words a.layout) (λ i. i.0) ∙ reported-length words a o.accepted in
+      omega (arith, simp length-take at n)
+
+  -- there is room for the second line behind the first
+  pub order-fits : (at room : ℕ) → at ≤ 53 → room ≡ 65536 → at + (6 + 6 * length (take a.layout.chosen order)) ≤ room
+  order-fits at room low n =
+      let m = length-take-le a.layout.chosen order order-there in
+      let few = few-chosen words a o.accepted in
+      omega arith
 
 -- the lines of its transitions too, by what they are worked out from
 module _ {words : List ℕ} {j : Result Accepted Refusal} {basis : Basis} where
@@ -83,8 +90,3 @@ module _ {words : List ℕ} {j : Result Accepted Refusal} {basis : Basis} where
 
 pub line-room : (words : List ℕ) (a : Accepted) → AcceptedAs words a → (room : ℕ) → room ≡ 65536 → longest a.layout ≤ room
 line-room words a e room n = let u = is-understood words a e in omega (arith, u.at_most_variables, u.at_most_rows)
-
--- there is room for the second line behind the first
-pub order-fits : (order : List ℕ) (chosen at room : ℕ) → chosen ≤ length order → chosen ≤ slots → at ≤ 53 → room ≡ 65536
-    → at + (6 + 6 * length (take chosen order)) ≤ room
-order-fits order chosen at room there few low n = let m = length-take-le chosen order there in omega arith

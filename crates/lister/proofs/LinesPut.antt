@@ -26,8 +26,9 @@ use Rattle.answers.proofs.Accepted.{is-understood, few-transitions}
 use Rattle.answers.proofs.Keeping.{rows_fit, front-is, front-there, front_length, assigned-many, assigned-there, assigned-front}
 use Rattle.marks.specs.Marks.{positions_from, positions}
 use Rattle.listing.specs.Text.{transition_line}
-use Rattle.listing.specs.Inside.Placed.{Put}
-use Rattle.listing.proofs.Placing.{put-nothing, put_then}
+use Rattle.listing.specs.declared.Pen.{Pen}
+use Rattle.listing.specs.Inside.Placed.{Puts}
+use Rattle.listing.proofs.Placing.{puts-nothing, puts_then}
 use Rattle.lister.specs.Listing.{line_of, lines_from}
 use Rattle.lister.specs.Inside.Steps.{Listable, longest, fitting}
 
@@ -80,43 +81,47 @@ module _ (words : List ℕ) (l : Layout) where
   fits-some room k (suc more) h some = let n = fits_more room 0 k more (omega arith) in omega arith
 
   -- lines put one after another, from transition k on
-  pub record Putting (k left : ℕ) (lent text : List ℕ) (count at : ℕ) : Type 0 where
+  pub record Putting (k left : ℕ) (before after : Pen) (count : ℕ) : Type 0 where
     pub so_far : count ≤ left
-    pub put : Put lent 0 (lines_from words l k count) text at
-    pub fit : fitting words l (length lent) 0 k left ≡ count + fitting words l (length lent) at (k + count) (left - count)
+    pub puts : Puts before (lines_from words l k count) after
+    pub fit : fitting words l (length before.buf.now) 0 k left ≡ count + fitting words l (length before.buf.now) after.at (k + count) (left - count)
 
-  module _ {k left : ℕ} {lent : List ℕ} where
-    pub putting-begins : Putting k left lent lent 0 0
+  module _ {k left : ℕ} {before : Pen} where
+    pub putting-begins : before.at ≡ 0 → Putting k left before before 0
     unfolding lines_from
-    putting-begins = record {
+    putting-begins none = record {
       so_far = omega arith;
-      put = put-nothing lent 0 (omega arith);
-      fit = let all : left - 0 ≡ left = omega arith in rw (add-zero, zero-add, all);
+      puts = puts-nothing before (omega arith);
+      fit = let all : left - 0 ≡ left = omega arith in rw (none, add-zero, zero-add, all);
     }
 
-    module _ {text : List ℕ} {count at : ℕ} (p : Putting k left lent text count at) where
-      pub putting-goes-on : {text' : List ℕ} {at' : ℕ} → count < left → longest l ≤ length lent - at → Put text at (line_of words l (k + count)) text' at'
-          → Putting k left lent text' (count + 1) at'
+    module _ {after : Pen} {count : ℕ} (p : Putting k left before after count) where
+      pub putting-goes-on : {after' : Pen} → count < left → longest l ≤ length before.buf.now - after.at → Puts after (line_of words l (k + count)) after'
+          → Putting k left before after' (count + 1)
       putting-goes-on h room q =
           let one : left - count ≡ suc (left - (count + 1)) = omega arith in
           let next : k + (count + 1) ≡ suc (k + count) = omega arith in
           let fit = rw one at p.fit in
-          let more = fits_more (length lent) at (k + count) (left - (count + 1)) room in
+          let more = fits_more (length before.buf.now) after.at (k + count) (left - (count + 1)) room in
           record {
             so_far = omega arith;
-            put = rw (lines_next k count) (put_then p.put q);
-            fit = rw (next, q.next) (omega arith);
+            puts = rw (lines_next k count) (puts_then p.puts q);
+            fit = rw (next, q.put.next) (omega arith);
           }
 
-      putting-stops : (fitting words l (length lent) at (k + count) (left - count) ≡ 0) → count ≡ fitting words l (length lent) 0 k left
+      putting-stops : (fitting words l (length before.buf.now) after.at (k + count) (left - count) ≡ 0)
+          → count ≡ fitting words l (length before.buf.now) 0 k left
       putting-stops none = let f = p.fit in omega arith
 
-      pub none_left : left ≤ count → count ≡ fitting words l (length lent) 0 k left
+      pub none_left : left ≤ count → count ≡ fitting words l (length before.buf.now) 0 k left
       unfolding fitting
       none_left h = let none : left - count ≡ 0 = omega arith in putting-stops (rw none)
 
-      pub no_room : length lent - at < longest l → count ≡ fitting words l (length lent) 0 k left
-      no_room h = putting-stops (fits-no-more (length lent) at (k + count) (left - count) h)
+      pub lines-all : left ≤ count → Puts before (lines_from words l k left) after
+      lines-all h = let all : count ≡ left = omega (arith, p.so_far) in rw all at p.puts
+
+      pub no_room : length before.buf.now - after.at < longest l → count ≡ fitting words l (length before.buf.now) 0 k left
+      no_room h = putting-stops (fits-no-more (length before.buf.now) after.at (k + count) (left - count) h)
 
 -- The line of transition k, from its bytes and its chosen labels.
 module _ {words : List ℕ} {a : Accepted} {marks : List ℕ} {own : Distinct} {order : List ℕ} (p : Listable words a marks own order) {k : ℕ}
@@ -149,10 +154,10 @@ module _ {words : List ℕ} {a : Accepted} {marks : List ℕ} {own : Distinct} {
       let most = rows_fit words a e in
       (omega arith, omega arith, omega arith)
 
-  pub line-put : {text text' : List ℕ} {at after : ℕ} → Put text at (transition_line k (take chosen labels) (positions (take l.rows kept))) text' after
-      → Put text at (line_of words l k) text' after
+  pub line-put : {before after : Pen} → Puts before (transition_line k (take chosen labels) (positions (take l.rows kept))) after
+      → Puts before (line_of words l k) after
   unfolding line_of positions
-  line-put put =
+  line-put puts =
       let u = is-understood words a e in
       let kept-are = positions-of (is_kept (formula_in words l) (proposal_in words l) (key_of words l k)) 0 l.rows in
-      rw (← assigned-front words a e k h q, u.labels_are, ← kept-are) (rw (front-is words a e k h kept₀ kept q.bytes, u.labels_are) at put)
+      rw (← assigned-front words a e k h q, u.labels_are, ← kept-are) (rw (front-is words a e k h kept₀ kept q.bytes, u.labels_are) at puts)

@@ -11,8 +11,8 @@ use Rattle.strategy.specs.declared.Accepted.{Accepted}
 use Rattle.answers.specs.Inside.Judged.{Ordered}
 use Rattle.answers.proofs.Accepted.{few-transitions}
 use Rattle.listing.specs.Text.{refused_line}
-use Rattle.listing.specs.Inside.Placed.{Put}
-use Rattle.lister.specs.declared.lines.Lines.{Lines}
+use Rattle.listing.specs.declared.Pen.{Pen}
+use Rattle.listing.specs.Inside.Placed.{Puts}
 use Rattle.lister.specs.Listing.{head_of}
 use Rattle.lister.specs.Inside.Steps.{pieces}
 use Rattle.lister.specs.Inside.Steps.{LinesPut, many_pieces, PartPut, AcceptedIf}
@@ -20,34 +20,33 @@ use Rattle.lister.proofs.Asked.{line-room}
 use Rattle.lister.proofs.LinesPut.{fits-within, fits-some}
 use Rattle.std.specs.Prelude.{Result, Ok, Err}
 
-module _ {words lent left : List ℕ} {n : ℕ} where
-  pub refused-part : (x : Refusal) {after : ℕ} → n < pieces (Err x) → Put lent 0 (refused_line (fault_number x.fault) x.place) left after
-      → PartPut words (Err x) n lent left (record { next = 1; length = after })
-  refused-part x h p = let first : n ≡ 0 = omega arith in rw first (record { many = refl; put = p })
+module _ {words : List ℕ} {n : ℕ} {before after : Pen} where
+  pub refused-part : (x : Refusal) → n < pieces (Err x) → Puts before (refused_line (fault_number x.fault) x.place) after
+      → PartPut words (Err x) n before after 1
+  refused-part x h p = let first : n ≡ 0 = omega arith in rw first (record { many = refl; puts = p })
 
   module _ {a : Accepted} {order : List ℕ} (o : Ordered words a order) where
-    pub head-part : {after : ℕ} → n ≡ 0 → Put lent 0 (head_of a (take a.layout.chosen order)) left after
-        → PartPut words (Ok a) n lent left (record { next = 1; length = after })
-    head-part first p = rw first (record { many = refl; put = rw o.is_in_front at p })
+    pub head-part : n ≡ 0 → Puts before (head_of a (take a.layout.chosen order)) after → PartPut words (Ok a) n before after 1
+    head-part first p = rw first (record { many = refl; puts = rw o.is_in_front at p })
 
-    -- no more lines are put than there are transitions
-    pub lines-few : {lines : Lines} → n < pieces (Ok a) → LinesPut words a (n - 1) lent left lines → n + lines.count ≤ 131072
-    lines-few h p =
-        let few = few-transitions words a o.accepted in
-        let within = fits-within words a.layout (length lent) 0 (n - 1) (a.transitions - (n - 1)) in
-        omega (arith, p.many)
+    module _ {count : ℕ} where
+      -- no more lines are put than there are transitions
+      pub lines-few : n < pieces (Ok a) → LinesPut words a (n - 1) before after count → n + count ≤ 131072
+      lines-few h p =
+          let few = few-transitions words a o.accepted in
+          let within = fits-within words a.layout (length before.buf.now) 0 (n - 1) (a.transitions - (n - 1)) in
+          omega (arith, p.many)
 
-    pub lines-part : {lines : Lines} → (n ≡ 0 → ⊥) → LinesPut words a (n - 1) lent left lines
-        → PartPut words (Ok a) n lent left (record { next = n + lines.count; length = lines.length })
-    lines-part {lines} some p = go n refl some p
-      where
-        go : (m : ℕ) → n ≡ m → (m ≡ 0 → ⊥) → LinesPut words a (m - 1) lent left lines
-            → PartPut words (Ok a) m lent left (record { next = m + lines.count; length = lines.length })
-        go zero e some p = absurd (some refl)
-        go (suc k) e some p =
-            let one : suc k - 1 ≡ k = omega arith in
-            let q = rw one at p in
-            record { many = ap (λ (m : ℕ). suc k + m) q.many; put = rw q.many at q.put }
+      pub lines-part : (n ≡ 0 → ⊥) → LinesPut words a (n - 1) before after count → PartPut words (Ok a) n before after (n + count)
+      lines-part some p = go n refl some p
+        where
+          go : (m : ℕ) → n ≡ m → (m ≡ 0 → ⊥) → LinesPut words a (m - 1) before after count
+              → PartPut words (Ok a) m before after (m + count)
+          go zero e some p = absurd (some refl)
+          go (suc k) e some p =
+              let one : suc k - 1 ≡ k = omega arith in
+              let q = rw one at p in
+              record { many = ap (λ (m : ℕ). suc k + m) q.many; puts = rw q.many at q.puts }
 
 -- how many pieces a part has
 pub part-goes-on : (words : List ℕ) {n : ℕ} (j : Result Accepted Refusal) → AcceptedIf words j → (room : ℕ) → room ≡ 65536 → n < pieces j

@@ -8,11 +8,11 @@ use mathlib.Core.List.{List, ◌++◌}
 use lib.ListN.{length, take, length-append}
 use lib.Seq.{length-take-le}
 use Rattle.answers.proofs.Accepted.{few-transitions}
-use Rattle.listing.proofs.Placing.{put-length}
+use Rattle.listing.specs.declared.Pen.{Pen}
+use Rattle.listing.specs.Inside.Placed.{Put}
 use Rattle.lister.specs.declared.output.Written.{Written}
-use Rattle.lister.specs.declared.parts.Part.{Part}
 use Rattle.lister.specs.Listing.{first_of, transitions_of, lines_below, listing_of}
-use Rattle.lister.specs.Inside.Steps.{pieces, pieces_below}
+use Rattle.lister.specs.Inside.Steps.{pieces, pieces_below, part_of}
 use Rattle.lister.specs.Running.{NextPart, HandedOver, Reached}
 use Rattle.lister.specs.Inside.Steps.{AcceptedIf, PartPut, Prepared}
 use Rattle.lister.proofs.Pieces.{put_front, stands-between, part-follows, all-pieces, behind}
@@ -46,42 +46,51 @@ module _ {bytes words order : List ℕ} {j : Result Accepted Refusal} (p : Prepa
   listing-is : listing_of bytes ≡ first_of words j ++ lines_below words j (transitions_of j)
   listing-is = rw (p.words_are, p.answered)
 
-  module _ {text left : List ℕ} {n : ℕ} {w : Written} {part : Part} (i : Writing words j text n w) (h : n < pieces j)
-      (q : PartPut words j n text left part) where
+  module _ {before after : Pen} {n next : ℕ} {w : Written} (q : PartPut words j n before after next) (none : before.at ≡ 0)
+      (i : Writing words j before.buf.now n w) (h : n < pieces j) where
     abbrev given : List ℕ
-    given = take part.length left
+    given = take after.at after.buf.now
 
-    pub length-there : part.length ≤ length left
-    length-there = omega (arith, q.put.within, put-length q.put)
+    in-front : Put before.buf.now 0 (part_of words j (length before.buf.now) n) after.buf.now after.at
+    in-front = rw none at q.puts.put
 
-    given-long : length given ≡ part.length
-    given-long = length-take-le part.length left length-there
+    pub length-there : {text : List ℕ} → text ≡ after.buf.now → after.at ≤ length text
+    length-there same = rw same (omega (arith, q.puts.put.within, q.puts.as_long))
 
-    joined : pieces_below words j part.next ≡ pieces_below words j n ++ given
+    given-long : length given ≡ after.at
+    given-long = length-take-le after.at after.buf.now (length-there refl)
+
+    joined : pieces_below words j next ≡ pieces_below words j n ++ given
     joined =
-        ap (pieces_below words j) q.many ∙ sym (part-follows words j (length text) n h)
-        ∙ ap (λ (ws : List ℕ). pieces_below words j n ++ ws) (sym (put_front q.put))
+        ap (pieces_below words j) q.many ∙ sym (part-follows words j (length before.buf.now) n h)
+        ∙ ap (λ (ws : List ℕ). pieces_below words j n ++ ws) (sym (put_front in-front))
 
-    pub goes_on : (n < part.next) × (part.next ≤ pieces j)
-    goes_on = let (some, within) = part-goes-on words {n = n} j are-accepted (length text) i.room h in (omega (arith, q.many), omega (arith, q.many))
+    pub goes_on : (n < next) × (next ≤ pieces j)
+    goes_on =
+        let (some, within) = part-goes-on words {n = n} j are-accepted (length before.buf.now) i.room h in
+        (omega (arith, q.many), omega (arith, q.many))
 
-    pub next-part : NextPart (listing_of bytes) w given
-    next-part =
-        let (rest, e) = behind words j part.next goes_on.1 in
-        record {
+    pub next-part : {text : List ℕ} → text ≡ after.buf.now → NextPart (listing_of bytes) w (take after.at text)
+    next-part same =
+        let (rest, e) = behind words j next goes_on.1 in
+        rw same (record {
           taken = i.taken;
           follows = rw i.at_is (stands-between (pieces_below words j n) given rest (listing-is ∙ e ∙ ap (λ (ws : List ℕ). ws ++ rest) joined));
-          few = omega (arith, i.low, given-long, q.put.within, i.room, few-pieces);
-        }
+          few = omega (arith, i.low, given-long, q.puts.put.within, i.room, few-pieces);
+        })
 
-    pub writing-goes-on : {after : Written} → HandedOver w given after → after.whole ≡ true → Writing words j left part.next after
-    writing-goes-on g whole = record {
+    goes-on : {written : Written} → HandedOver w given written → written.whole ≡ true → Writing words j after.buf.now next written
+    goes-on g whole = record {
       so_far = goes_on.1;
       taken = whole;
       at_is = g.taken whole ∙ rw i.at_is (sym (ap length joined ∙ length-append (pieces_below words j n) given));
-      low = let on = goes_on.0 in omega (arith, g.taken whole, i.low, given-long, q.put.within, i.room);
-      room = put-length q.put ∙ i.room;
+      low = let on = goes_on.0 in omega (arith, g.taken whole, i.low, given-long, q.puts.put.within, i.room);
+      room = q.puts.as_long ∙ i.room;
     }
+
+    pub writing-goes-on : {text : List ℕ} {written : Written} → text ≡ after.buf.now → HandedOver w (take after.at text) written
+        → written.whole ≡ true → Writing words j text next written
+    writing-goes-on same g whole = rw same (goes-on (rw same at g) whole)
 
   module _ {text : List ℕ} {n : ℕ} {w : Written} (i : Writing words j text n w) where
     within : w.at ≤ length (listing_of bytes)

@@ -1,6 +1,6 @@
 // What is read: at most 65,536 bytes, the first ones of a longer input (document 01, "Refusal numbers, in the order of checks"). No
 // contract can say what a reading call puts into the buffer.
-ghost use Rattle.std.specs.Prelude.{◌≡◌, ◌≤◌, length};
+ghost use Rattle.std.specs.Prelude.{◌≡◌, length};
 ghost use Rattle.lister.specs.Running.{ReadSo};
 ghost use Rattle.paper.specs.Limits.{most_bytes};
 
@@ -13,14 +13,14 @@ pub struct Read {
     pub ended: bool,
 }
 
-// Reads until the buffer is full, or a reading call gives nothing more.
+// Reads until the buffer is full, or a reading call gives nothing more; one that fails gives nothing more.
 pub fn read_input<R: io::Read>(input: &mut R, bytes: &mut [u8]) -> Read
     requires { length bytes.old ≡ most_bytes }
     ensures { ReadSo result }
 {
     let mut count = 0;
     while count < bytes.len() {
-        let more = read_some(input, &mut bytes[count..]);
+        let more = input.read(&mut bytes[count..]).unwrap_or(0);
         if more == 0 {
             return Read { count, ended: true };
         }
@@ -30,11 +30,4 @@ pub fn read_input<R: io::Read>(input: &mut R, bytes: &mut [u8]) -> Read
         count,
         ended: false,
     }
-}
-
-// How many bytes one reading call puts in front. One that fails gives nothing more.
-fn read_some<R: io::Read>(input: &mut R, bytes: &mut [u8]) -> usize
-    ensures { result ≤ length bytes.new }
-{
-    input.read(bytes).unwrap_or(0)
 }

@@ -6,6 +6,7 @@ ghost use Rattle.lister.specs.Inside.Steps.{Prepared};
 use crate::basis::basis_if_accepted;
 use crate::output::{Written, is_whole, nothing_yet, write_next};
 use crate::parts::{pieces_of, put_part};
+use listing::Pen;
 use paper::Refusal;
 use paper::limits::MOST_BYTES;
 use strategy::Accepted;
@@ -23,19 +24,22 @@ pub fn write_listing(
     ensures { Reached (listing_of bytes.now) result }
 {
     let basis = basis_if_accepted(words, judged);
-    let marks = basis.marks;
     let count = pieces_of(judged);
     let mut text = [0u8; MOST_BYTES];
     let mut next = 0;
     let mut written = nothing_yet();
     while next < count {
-        let part = put_part(words, judged, &marks, basis.own, order, next, &mut text);
-        let length = part.length;
+        let mut pen = Pen {
+            buf: &mut text,
+            at: 0,
+        };
+        let after = put_part(words, judged, &basis, order, next, &mut pen);
+        let length = pen.at;
         written = write_next(rt, bytes, written, &text[..length]);
         if !is_whole(written) {
             return written;
         }
-        next = part.next;
+        next = after;
     }
     written
 }

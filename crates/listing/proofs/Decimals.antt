@@ -1,17 +1,15 @@
 -- Numbers in decimal: a number below ten is its one digit, any other its tenth and one digit more, and a number below 10 ^ k has
 -- at most k digits. By the steps that `digits` takes, of which more than enough make no difference.
-use Prim.Native.Nat.{ℕ, zero, suc, ◌+◌, ◌/◌, ◌%◌, ◌^◌, ◌*◌, ◌≤◌, ◌<◌}
-use native.Mathlib.Nat.{pow-suc, one-le-pow}
+use Prim.Native.Nat.{ℕ, zero, suc, ◌+◌, ◌/◌, ◌%◌, ◌^◌, ◌≤◌, ◌<◌}
+use native.Mathlib.Nat.{pow-suc}
 use native.Mathlib.Omega.{arith}
 use mathlib.Core.Path.{◌≡◌, refl, sym, ap, ◌∙◌}
 use mathlib.Core.Bool.{Bool, true, false}
 use mathlib.Core.List.{List, [], ◌∷◌, ◌++◌}
 use lib.Dec.{ltb}
-use lib.ListN.{length, set, length-append}
+use lib.ListN.{length, length-append}
 use borrow.Author.Tests.{ltb-true, ltb-false, lt-ltb, le-ltb}
 use Rattle.listing.specs.Text.{digits, decimal}
-use Rattle.listing.specs.Inside.Placed.{placed}
-use Rattle.listing.proofs.Placing.{placed-byte, placed-before}
 
 -- below m, or not
 pub split : {C : Type 0} (n m : ℕ) → (n < m → C) → (m ≤ n → C) → C
@@ -69,29 +67,8 @@ digits-at-most (suc k) n h =
     (λ small. omega (arith, length-small n small))
     (λ more. omega (arith, length_more n more, digits-at-most k (n / 10) (omega (arith, pow-suc 10 (suc k)))))
 
-pub five-digits : (n : ℕ) → n < 65536 → length (decimal n) ≤ 5
-five-digits n h = digits-at-most 4 n (omega arith)
+pub five_digits : (n : ℕ) → n < 65536 → length (decimal n) ≤ 5
+five_digits n h = digits-at-most 4 n (omega arith)
 
-pub ten-digits : (n : ℕ) → n < 2 ^ 32 → length (decimal n) ≤ 10
-ten-digits n h = digits-at-most 9 n (omega arith)
-
-pub digits-exactly : (k n : ℕ) → 10 ^ k ≤ n → n < 10 ^ suc k → length (decimal n) ≡ suc k
-digits-exactly zero n l h = length-small n h
-digits-exactly (suc k) n l h =
-    let tenth : 10 ^ suc k ≡ 10 ^ k * 10 = pow-suc 10 k in
-    let some : 1 ≤ 10 ^ k = one-le-pow k 10 (omega arith) in
-    let shorter : length (decimal (n / 10)) ≡ suc k = digits-exactly k (n / 10) (omega arith) (omega (arith, pow-suc 10 (suc k))) in
-    omega (arith, length_more n (omega arith))
-
--- the digits in a buffer, the last one stored first: `place` is where the last digit of what is left goes
-module _ (buf : List ℕ) (at rest place : ℕ) (last : place + 1 ≡ at + length (decimal rest)) (within : place < length buf) where
-  pub digit-stored : 10 ≤ rest → placed (set buf place (48 + rest % 10)) at (decimal (rest / 10)) ≡ placed buf at (decimal rest)
-  digit-stored more =
-      let here : place ≡ at + length (decimal (rest / 10)) = omega (arith, length_more rest more) in
-      let digit : List ℕ = (48 + rest % 10) ∷ [] in
-      rw (placed-byte buf place (48 + rest % 10) within, here, placed-before buf at (decimal (rest / 10)) digit (omega arith), decimal-more rest more)
-
-  pub first-digit-stored : rest < 10 → set buf place (48 + rest) ≡ placed buf at (decimal rest)
-  first-digit-stored small =
-      let here : place ≡ at = omega (arith, length-small rest small) in
-      rw (placed-byte buf place (48 + rest) within, here, decimal-small rest small)
+pub ten_digits : (n : ℕ) → n < 2 ^ 32 → length (decimal n) ≤ 10
+ten_digits n h = digits-at-most 9 n (omega arith)

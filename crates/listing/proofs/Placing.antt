@@ -1,6 +1,6 @@
--- Laws of bytes put into a buffer: pieces put one after another, in either order, are their join put at once; a store is a piece
+-- Laws of bytes put into a buffer: pieces put one after another are their join put at once; a store is a piece
 -- of one byte; the buffer keeps its length. From the laws of `take` and `drop` at the seams.
-use Prim.Native.Nat.{ℕ, ◌+◌, ◌≤◌, ◌<◌}
+use Prim.Native.Nat.{ℕ, ◌+◌, ◌-◌, ◌≤◌, ◌<◌}
 use native.Mathlib.Nat.{add_assoc, add-zero}
 use native.Mathlib.Numerals.{add-one}
 use native.Mathlib.Omega.{arith}
@@ -8,7 +8,10 @@ use mathlib.Core.Path.{◌≡◌, refl, sym, ap, ◌∙◌}
 use mathlib.Core.List.{List, [], ◌∷◌, ◌++◌, append_assoc, append-nil}
 use lib.ListN.{length, get_or, take, drop, set, length-append, length-drop, take-append-drop}
 use lib.Seq.{length-take-le, take-suc, take-append-le, take-take, take_at, drop_at, drop-drop, set_split, append_snoc}
-use Rattle.listing.specs.Inside.Placed.{placed, Put}
+use Rattle.paper.proofs.Outcome.{by-equation}
+use Rattle.listing.specs.declared.Pen.{Pen}
+use borrow.Rule.Slice.PartMut.{put_mid, Post-is}
+use Rattle.listing.specs.Inside.Placed.{placed, Put, Puts}
 
 pub placed-nothing : (old : List ℕ) (at : ℕ) → placed old at [] ≡ old
 unfolding placed
@@ -40,29 +43,23 @@ placed-behind old at a b h =
       add_assoc,
     )
 
--- the first piece before the second
-pub placed-before : (old : List ℕ) (at : ℕ) (a b : List ℕ) → at + length a ≤ length old
-    → placed (placed old (at + length a) b) at a ≡ placed old at (a ++ b)
-unfolding placed
-placed-before old at a b h =
-    let front : length (take (at + length a) old) ≡ at + length a = length-take-le (at + length a) old h in
-    let rest : List ℕ = drop (at + length a + length b) old in
-    rw (
-      append_assoc (take (at + length a) old) b rest,
-      take-append-le at (take (at + length a) old) (b ++ rest) (omega arith),
-      take-take at (at + length a) old (omega arith),
-      drop_at (take (at + length a) old) (b ++ rest) (at + length a) front,
-      ← append_assoc (take at old ++ a) b rest,
-      append_assoc (take at old) a b,
-      length-append a b,
-      add_assoc,
-    )
-
 pub put-nothing : (old : List ℕ) (at : ℕ) → at ≤ length old → Put old at [] old at
 put-nothing old at h = record { text = sym (placed-nothing old at); next = sym (add-zero at); within = h }
 
 pub put-stored : (old : List ℕ) (at b : ℕ) → at < length old → Put old at (b ∷ []) (set old at b) (at + 1)
 put-stored old at b h = record { text = placed-byte old at b h; next = refl; within = omega arith }
+
+-- a piece copied into the part that is as long
+pub put-part : (old : List ℕ) (at : ℕ) {word part : List ℕ} → at + length word ≤ length old → part ≡ word
+    → Put old at word (put_mid at (at + length word - at) old part) (at + length word)
+unfolding placed
+put-part old at {word} room e =
+    let behind = Post-is at (at + length word) old (omega arith) in
+    record {
+      text = rw (e, behind) (sym (append_assoc (take at old) word (drop (at + length word) old)));
+      next = refl;
+      within = room;
+    }
 
 module _ {old : List ℕ} {at : ℕ} {a mid : List ℕ} {m : ℕ} (p : Put old at a mid m) where
   pub put-length : length mid ≡ length old
@@ -78,13 +75,24 @@ module _ {old : List ℕ} {at : ℕ} {a mid : List ℕ} {m : ℕ} (p : Put old a
         within = omega (arith, put-length);
       }
 
--- one byte more of a word that is put byte by byte
-pub placed-more : (old : List ℕ) (at : ℕ) (word : List ℕ) (i : ℕ) → at + length word ≤ length old → i < length word
-    → set (placed old at (take i word)) (at + i) (get_or word i 0) ≡ placed old at (take (i + 1) word)
-placed-more old at word i room h =
-    let long : length (take i word) ≡ i = length-take-le i word (omega arith) in
-    let within : at + i < length (placed old at (take i word)) = rw (length-placed old at (take i word) (omega arith)) (omega arith) in
-    placed-byte (placed old at (take i word)) (at + i) (get_or word i 0) within
-    ∙ ap (λ (k : ℕ). placed (placed old at (take i word)) (at + k) (get_or word i 0 ∷ [])) (sym long)
-    ∙ placed-behind old at (take i word) (get_or word i 0 ∷ []) (omega arith)
-    ∙ rw (add-one, take-suc word i 0 h)
+-- a pen that puts what a buffer gets
+pub puts : {before after : Pen} {a : List ℕ} → after.buf.ref_ptr ≡ before.buf.ref_ptr → after.buf.ghost_name ≡ before.buf.ghost_name
+    → Put before.buf.now before.at a after.buf.now after.at → Puts before a after
+puts there same p = record { there = there; same = same; as_long = put-length p; put = p }
+
+pub puts-nothing : (pen : Pen) → pen.at ≤ length pen.buf.now → Puts pen [] pen
+puts-nothing pen h = puts refl refl (put-nothing pen.buf.now pen.at h)
+
+pub puts_then : {before mid after : Pen} {a b : List ℕ} → Puts before a mid → Puts mid b after → Puts before (a ++ b) after
+puts_then p q = puts (q.there ∙ p.there) (q.same ∙ p.same) (put_then p.put q.put)
+
+-- what is put decides all
+pub one-pen : {before one other : Pen} {bytes : List ℕ} → Puts before bytes one → Puts before bytes other → one ≡ other
+one-pen p q = λ i. record {
+  buf = record {
+    ref_ptr = by-equation p.there q.there i;
+    ghost_name = by-equation p.same q.same i;
+    now = by-equation p.put.text q.put.text i;
+  };
+  at = by-equation p.put.next q.put.next i;
+}

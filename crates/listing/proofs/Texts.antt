@@ -12,9 +12,10 @@ use lib.ListN.{length, get_or, take}
 use lib.Seq.{length-take-le, take-suc}
 use borrow.Author.Tests.{eq-eqb, ne_eqb}
 use Rattle.marks.specs.Marks.{positions_from, positions}
+use Rattle.listing.specs.declared.Pen.{Pen}
 use Rattle.listing.specs.Text.{field, fields}
-use Rattle.listing.specs.Inside.Placed.{Put}
-use Rattle.listing.proofs.Placing.{put_then}
+use Rattle.listing.specs.Inside.Placed.{Puts}
+use Rattle.listing.proofs.Placing.{puts_then}
 
 pub fields-append : (ms ns : List ℕ) → fields (ms ++ ns) ≡ fields ms ++ fields ns
 unfolding fields
@@ -29,9 +30,9 @@ pub fields-next : (ns : List ℕ) (i : ℕ) → i < length ns → fields (take (
 fields-next ns i h = rw (add-one, take-suc ns i 0 h) (fields-one-more (take i ns) (get_or ns i 0))
 
 -- one field more behind a word and fields
-pub put-one-more : (word ns : List ℕ) (n : ℕ) {old mid new : List ℕ} {at m after : ℕ}
-    → Put old at (word ++ fields ns) mid m → Put mid m (field n) new after → Put old at (word ++ fields (ns ++ n ∷ [])) new after
-put-one-more word ns n p q = rw (fields-one-more ns n, ← append_assoc word (fields ns) (field n)) (put_then p q)
+pub put-one-more : (word ns : List ℕ) (n : ℕ) {before mid after : Pen} → Puts before (word ++ fields ns) mid → Puts mid (field n) after
+    → Puts before (word ++ fields (ns ++ n ∷ [])) after
+put-one-more word ns n p q = rw (fields-one-more ns n, ← append_assoc word (fields ns) (field n)) (puts_then p q)
 
 -- a position in front, where its byte is 1
 first-or-not : (t : Bool) (k : ℕ) (ks ls : List ℕ) → cond t (k ∷ (ks ++ ls)) (ks ++ ls) ≡ cond t (k ∷ ks) ks ++ ls

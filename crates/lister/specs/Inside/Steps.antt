@@ -7,20 +7,14 @@ use Rattle.strategy.specs.declared.Accepted.{Accepted}
 use Rattle.input.specs.Bytes.{words_of, judged_bytes}
 use Rattle.answers.specs.declared.numbered.Basis.{Basis}
 use Rattle.answers.specs.Inside.Judged.{AcceptedAs, Ordered, Based, BasedExactly}
-use Rattle.listing.specs.Inside.Placed.{Put}
-use Rattle.lister.specs.declared.lines.Lines.{Lines}
-use Rattle.lister.specs.declared.parts.Part.{Part}
+use Rattle.listing.specs.declared.Pen.{Pen}
+use Rattle.listing.specs.Inside.Placed.{Puts}
 use Rattle.lister.specs.Listing.{line_of, lines_from, first_of, transitions_of, lines_below}
 use Rattle.paper.specs.declared.Refusal.{Refusal}
 
--- counts that fit, an order of so many labels, and room for two lines
-pub record Headed (a : Accepted) (order text : List ℕ) : Type 0 where
-  pub variables_fit : a.layout.variables ≤ most_variables
-  pub rows_fit : a.layout.rows ≤ most_rows
-  pub chosen_fit : a.layout.chosen ≤ slots
-  pub transitions_fit : a.transitions ≤ most_transitions
-  pub order_there : a.layout.chosen ≤ length order
-  pub room : length text ≡ most_bytes
+-- a pen that put nothing yet into a buffer as long as the longest input
+abbrev pub Fresh : Pen → Type 0
+Fresh pen = (pen.at ≡ 0) × (length pen.buf.now ≡ most_bytes)
 
 -- accepted words, with their reported order and what the line of every transition is worked out from
 pub record Listable (words : List ℕ) (a : Accepted) (marks : List ℕ) (own : Distinct) (order : List ℕ) : Type 0 where
@@ -51,10 +45,10 @@ fitting words l room at k (suc more) = cond (ltb (room - at) (longest l)) 0 (suc
 abbrev pub many_lines : List ℕ → Accepted → ℕ → ℕ → ℕ
 many_lines words a room k = fitting words a.layout room 0 k (a.transitions - k)
 
--- they stand in front of what was there
-pub record LinesPut (words : List ℕ) (a : Accepted) (k : ℕ) (lent left : List ℕ) (lines : Lines) : Type 0 where
-  pub many : lines.count ≡ many_lines words a (length lent) k
-  pub put : Put lent 0 (lines_from words a.layout k lines.count) left lines.length
+-- so many were put
+pub record LinesPut (words : List ℕ) (a : Accepted) (k : ℕ) (before after : Pen) (count : ℕ) : Type 0 where
+  pub many : count ≡ many_lines words a (length before.buf.now) k
+  pub puts : Puts before (lines_from words a.layout k count) after
 
 -- The listing in pieces: piece 0 is the first part, and piece k + 1 the line of transition k. How many there are, and those below n joined.
 abbrev pub pieces : Result Accepted Refusal → ℕ
@@ -75,10 +69,10 @@ part_of words j room zero = first_of words j
 part_of words (Err r) room (suc k) = []
 part_of words (Ok a) room (suc k) = lines_from words a.layout k (many_lines words a room k)
 
--- it stands in front of what was there
-pub record PartPut (words : List ℕ) (j : Result Accepted Refusal) (n : ℕ) (lent left : List ℕ) (part : Part) : Type 0 where
-  pub many : part.next ≡ n + many_pieces words j (length lent) n
-  pub put : Put lent 0 (part_of words j (length lent) n) left part.length
+-- it was put, and the piece after it is this one
+pub record PartPut (words : List ℕ) (j : Result Accepted Refusal) (n : ℕ) (before after : Pen) (next : ℕ) : Type 0 where
+  pub many : next ≡ n + many_pieces words j (length before.buf.now) n
+  pub puts : Puts before (part_of words j (length before.buf.now) n) after
 
 -- of accepted words the reported order stands in front
 abbrev pub OrderedIf : List ℕ → Result Accepted Refusal → List ℕ → Type 0

@@ -1,10 +1,6 @@
 -- `fill_words` puts the words one after another: the invariant is that the words of the bytes passed stand in front.
-use Prim.Native.Nat.{◌-◌}
 use Rattle.input.proofs.BytePairs.{Putting}
 use Rattle.input.proofs.words.fill_words.Given as goal
 
 abbrev pub invariant-loop-i : goal.invariant-loop-i
 invariant-loop-i l = Putting l.bytes l.initial.words l.words l.i
-
-abbrev pub decreases-loop-i : goal.decreases-loop-i
-decreases-loop-i l = l.count - l.i

@@ -1,7 +1,7 @@
 -- Each turn gives the part that comes next to the writing call; the number of pieces left falls.
 use Prim.Native.Nat.{◌<◌}
 use native.Mathlib.Omega.{arith}
-use mathlib.Core.Path.{sym, ◌∙◌}
+use mathlib.Core.Path.{refl, sym, ◌∙◌}
 use borrow.Author.Rules.{rules}
 use Rattle.lister.specs.Inside.Steps.{pieces}
 use Rattle.lister.proofs.Asked.{listable-if}
@@ -18,20 +18,22 @@ pieces_of-count-requires g c = few-pieces c.requires
 pub loop-next-init : goal.loop-next-init
 loop-next-init g c = writing_begins c.nothing_yet-written.ensures (search rules)
 
-pub put_part-part-requires : goal.put_part-part-requires
-put_part-part-requires g c =
+pub put_part-after-requires : goal.put_part-after-requires
+put_part-after-requires g c =
     let below : c.loop-next.next < pieces c.args.judged = omega (arith, c.loop-next-test.true, c.pieces_of-count.ensures) in
-    (listable-if c.requires c.basis_if_accepted-basis.ensures, below, c.loop-next.invariant.room)
+    (listable-if c.requires c.basis_if_accepted-basis.ensures, below, (refl, c.loop-next.invariant.room))
 
 pub slice_bounds-text-end : goal.slice_bounds-text-end
 slice_bounds-text-end g c =
     let below : c.loop-next.next < pieces c.args.judged = omega (arith, c.loop-next-test.true, c.pieces_of-count.ensures) in
-    length-there c.requires c.loop-next.invariant below c.put_part-part.ensures
+    let same = sym c.put_part-after.ensures.puts.same in
+    length-there c.requires c.put_part-after.ensures refl c.loop-next.invariant below (search rules)
 
 pub write_next-written-requires : goal.write_next-written-requires
 write_next-written-requires g c =
     let below : c.loop-next.next < pieces c.args.judged = omega (arith, c.loop-next-test.true, c.pieces_of-count.ensures) in
-    next-part c.requires c.loop-next.invariant below c.put_part-part.ensures
+    let same = sym c.put_part-after.ensures.puts.same in
+    next-part c.requires c.put_part-after.ensures refl c.loop-next.invariant below (search rules)
 
 pub returns-then-not-is_whole : goal.returns-then-not-is_whole
 returns-then-not-is_whole g c =
@@ -40,13 +42,14 @@ returns-then-not-is_whole g c =
 pub loop-next-smaller : goal.loop-next-smaller
 loop-next-smaller g c =
     let below : c.loop-next.next < pieces c.args.judged = omega (arith, c.loop-next-test.true, c.pieces_of-count.ensures) in
-    let on = goes_on c.requires c.loop-next.invariant below c.put_part-part.ensures in
+    let on = goes_on c.requires c.put_part-after.ensures refl c.loop-next.invariant below in
     omega (arith, c.pieces_of-count.ensures)
 
 pub loop-next-preserved : goal.loop-next-preserved
 loop-next-preserved g c =
     let below : c.loop-next.next < pieces c.args.judged = omega (arith, c.loop-next-test.true, c.pieces_of-count.ensures) in
-    writing-goes-on c.requires c.loop-next.invariant below c.put_part-part.ensures c.write_next-written.ensures
+    let same = sym c.put_part-after.ensures.puts.same in
+    writing-goes-on c.requires c.put_part-after.ensures refl c.loop-next.invariant below (search rules) c.write_next-written.ensures
     (sym c.is_whole.ensures ∙ c.if-not-is_whole.false)
 
 pub returns : goal.returns
