@@ -10,12 +10,6 @@ use Rattle.entries.specs.contracts.first_where.F-Fn.{Ghosts, words}
 use Rattle.entries.proofs.First.{first_once}
 use Rattle.entries.proofs as entries
 
-pub wide : OneOutcome entries.wide.Kinds.ps entries.wide.Kinds.r entries.wide.Reads.Pre entries.wide.Reads.Post
-wide κs a pre x y v w p q = (by-equation p q, refl)
-
-pub least : OneOutcome entries.least.Kinds.ps entries.least.Kinds.r entries.least.Reads.Pre entries.least.Reads.Post
-least κs a pre x y v w p q = (by-equation p q, refl)
-
 -- whatever the test is, where it has one answer at each number
 pub first-where : (T : RattleType) (L : Laws T) (F : Ghosts T) (d e f g : Dict)
     → OneOutcome (entries.first_where.Kinds.ps T L) (entries.first_where.Kinds.r T L)

@@ -2,26 +2,12 @@
 // star's reads in 6). A search gives its n where there is none, as `first` does.
 #![tactic(auto)]
 
-ghost use Rattle.std.specs.Prelude.{◌≡◌, ℕ, ◌≤◌, ◌<◌, min, ◌||◌, length};
+ghost use Rattle.std.specs.Prelude.{◌≡◌, ℕ, ◌≤◌, ◌<◌, ◌||◌, length};
 ghost use Rattle.entries.specs.First.{first};
 ghost use Rattle.entries.specs.Inside.Asked.{FirstAsked};
 ghost use Rattle.entries.specs.Entries.{falls, ascend, beyond};
 
 use paper::{Label, Variable};
-
-// A 16-bit number where a wider one is wanted.
-pub fn wide(x: u16) -> usize
-    ensures { result ≡ x }
-{
-    x as usize
-}
-
-// The lower of two numbers.
-pub fn least(a: usize, b: usize) -> usize
-    ensures { result ≡ min a b }
-{
-    if a < b { a } else { b }
-}
 
 // The lowest k below n with `is_bad(k)`, or n.
 pub fn first_where<F: Fn(usize) -> bool>(n: usize, is_bad: F) -> usize
