@@ -201,5 +201,6 @@ module _ (rows reads : List ℕ) {f : Formula} (written : f ≡ formula_at rows 
 
     -- refusals 11 and 12 of the judgement are those of the covering
     pub covering-says : (next : Judgement)
-        → refuse VariableMissed (map (λ v. v.0) (missed #V f A)) (refuse VariableTwice (map (λ v. v.0) (doubled #V f A)) next) ≡ judgement_of (covering_of rows marks #V) next
+        → refuse VariableMissed (map (λ v. v.0) (missed #V f A)) (refuse VariableTwice (map (λ v. v.0) (doubled #V f A)) next)
+        ≡ judgement_of (covering_of rows marks #V) next
     covering-says next = rw covering-is (refuse-by (missed #V f A) (doubled #V f A) next)

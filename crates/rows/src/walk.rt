@@ -32,7 +32,7 @@ pub trait Folding {
         ensures { result ≡ (fold self.now).join conj a b };
 }
 
-// Whether it is a conjunction whose values are joined.
+// Whether a row of a form joins values as a conjunction does.
 fn is_conjunction(form: Form) -> bool
     ensures { result ≡ is_conjunction form }
 {

@@ -72,6 +72,8 @@ fn shares_of(each: bool, keys: Distinct, k: u64) -> Shares
 
 // Sets the bytes of the labels that key k of the formula at a row keeps, the formula being `left` levels deep at most and `own`
 // its keys. The keys of a child are counted once, for its turn and for the walk that goes on there.
+// Rows, marks and n stay apart, as the callers have them, here and at `keys_of` and `covering_of`: a struct of the three would be
+// built at each call and taken apart at once.
 pub fn keep(
     rows: &[u16],
     marks: &[u8; MOST_ROWS],

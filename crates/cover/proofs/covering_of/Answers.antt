@@ -4,7 +4,8 @@ use native.Mathlib.Omega.{arith}
 use mathlib.Core.Path.{refl}
 use Rattle.entries.proofs.First.{first-le}
 use Rattle.cover.specs.Inside.Masks.{bit_at}
-use Rattle.cover.proofs.Blocks.{passed_none, passing-stops, passing-goes-on, two-within, further-found, further-kept, passing-ends-doubled, passing-ends-covered}
+use Rattle.cover.proofs.Blocks.{further-found, further-kept, passed_none, passing-stops, passing-goes-on, two-within}
+use Rattle.cover.proofs.Blocks.{passing-ends-doubled, passing-ends-covered}
 use Rattle.cover.proofs.covering_of.Goals.{then-two-v, else-two-v}
 use Rattle.cover.proofs.covering_of.Goals as goal
 
