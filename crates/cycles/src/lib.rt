@@ -19,7 +19,8 @@ use paper::{Label, Variable};
 use rows::{arg_of, from_of};
 
 // The path: a mark for each index (0 is new, 1 is done, p + 2 is on the path at position p), the indices at its positions, the
-// position where each of its segments starts, and the finger of each index.
+// position where each of its segments starts, and the finger of each index. Arrays side by side, their lengths in `Walk`: the
+// memory is fixed, and `seek` takes the marks alone.
 #[derive(Drop)]
 struct Path {
     mark: [u16; SLOTS],
@@ -77,6 +78,7 @@ fn merged(bound: &[u16; SLOTS], top: usize, p: usize) -> usize
     ensures { Merged bound.now top p result }
 {
     let mut t = top;
+    // a while: it ends at the first bound that is not above p, which is there
     while p < usize::from(bound[t - 1]) {
         t -= 1;
     }
@@ -191,7 +193,7 @@ fn first_self(g: &Following) -> usize
     first_where(g.choice.chosen.len(), |j| is_before_itself(g, j))
 }
 
-// The lowest index on a cycle, or how many there are.
+// The lowest index on a cycle, or how many there are, as its definition has it.
 pub fn lowest_on_cycle(g: &Following) -> usize
     ensures { result ≡ lowest_on_cycle g.now.choice.rows.now g.now.reads.now g.now.choice.chosen.now }
 {

@@ -21,7 +21,7 @@ pub struct Following<'a> {
     pub choice: Choice<'a>,
     pub reads: &'a [u16],
     pub net: &'a Net,
-    pub ghost ready: { Followable choice.rows.now reads.now choice.chosen.now net.now choice.n } by { Followable-prop choice.rows.now reads.now choice.chosen.now net.now choice.n },
+    pub ghost ready: { Followable choice.rows.now reads.now choice.chosen.now net.now choice.n } by { Followable-prop },
 }
 
 // A spot that a finger points to: a star (label 0 for none), its next read, and the next index of the read before.
@@ -91,10 +91,8 @@ impl<'a> Following<'a> {
             j known.new.from.0 known.new.to.0 result }
     {
         let i = Label(self.choice.chosen[k]);
-        if known.from.0 <= i.0 {
-            if i.0 < known.to.0 {
-                return false;
-            }
+        if known.from.0 <= i.0 && i.0 < known.to.0 {
+            return false;
         }
         let clear = clear_of(
             self.choice.rows,

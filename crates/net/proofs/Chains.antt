@@ -50,39 +50,40 @@ module _ (rows chosen : List ℕ) where
       rw l (omega arith)
 
   -- the labels from index k on are linked
-  pub record Linked (k : ℕ) (ns fs : List ℕ) : Type 0 where
+  pub record Linked (old : List ℕ) (k : ℕ) (ns fs : List ℕ) : Type 0 where
     pub long : length ns ≡ slots
     pub wide : length fs ≡ most_variables
     pub nexts : (j : ℕ) → k ≤ j → j < length chosen → get_or ns j 0 ≡ next_with rows chosen j
-    pub others : (j : ℕ) → length chosen ≤ j → get_or ns j 0 ≡ 0
+    pub others : (j : ℕ) → length chosen ≤ j → get_or ns j 0 ≡ get_or old j 0
     pub firsts : (v : ℕ) → v < most_variables → get_or fs v 0 ≡ first_with rows chosen v k
 
   -- none is, and all are
-  pub linked-none : {ns fs : List ℕ} {#L : ℕ} → Words slots (next_with rows chosen) 0 ns → #L ≡ most_variables → fs ≡ replicate #L (length chosen)
-      → Linked (length chosen) ns fs
-  linked-none {#L = #L} w same e = record {
-    long = w.size;
+  pub linked-none : {ns fs : List ℕ} {#L : ℕ} → length ns ≡ slots → #L ≡ most_variables → fs ≡ replicate #L (length chosen)
+      → Linked ns (length chosen) ns fs
+  linked-none {#L = #L} long same e = record {
+    long = long;
     wide = ap length e ∙ length-replicate {A = ℕ} #L (length chosen) ∙ same;
     nexts = λ j h k. absurd (omega arith);
-    others = λ j h. w.others j (omega arith);
+    others = λ j h. refl;
     firsts = λ v h. ap (λ l. get_or l v 0) e ∙ get_or-replicate {A = ℕ} #L v (length chosen) 0 (omega arith) ∙ sym (first_past v (length chosen) refl);
   }
 
-  pub linked-all : {k : ℕ} {ns fs : List ℕ} → Linked k ns fs → k ≡ 0
-      → Words slots (next_with rows chosen) (length chosen) ns × Words most_variables (λ v. first_with rows chosen v 0) most_variables fs
-  linked-all {fs = fs} l e = (
-    record { size = l.long; given = λ j h. l.nexts j (omega arith) h; others = l.others },
+  pub linked-all : {k : ℕ} {old ns before fs : List ℕ} → Linked old k ns fs → k ≡ 0 → length before ≡ most_variables
+      → Words slots (next_with rows chosen) 0 (length chosen) old ns × Words most_variables (λ v. first_with rows chosen v 0) 0 most_variables before fs
+  linked-all {before = before} {fs = fs} l e size = (
+    record { size = l.long; given = λ j a h. l.nexts j (omega arith) h; before = λ j h. absurd (omega arith); behind = l.others },
     record {
       size = l.wide;
-      given = λ v h. l.firsts v h ∙ ap (first_with rows chosen v) e;
-      others = λ v h. get_or-eq_default fs 0 (omega (arith, l.wide));
+      given = λ v a h. l.firsts v h ∙ ap (first_with rows chosen v) e;
+      before = λ v h. absurd (omega arith);
+      behind = λ v h. get_or-eq_default fs 0 (omega (arith, l.wide)) ∙ sym (get_or-eq_default before 0 (omega arith));
     },
   )
 
   -- one more label is: it has its variable's first from there on as its next, and is its variable's first itself
-  module _ (m k v : ℕ) {ns fs : List ℕ} (l : Linked m ns fs) (next : m ≡ k + 1) (within : m ≤ length chosen) (small : length chosen ≤ slots)
+  module _ (m k v : ℕ) {old ns fs : List ℕ} (l : Linked old m ns fs) (next : m ≡ k + 1) (within : m ≤ length chosen) (small : length chosen ≤ slots)
       (of : v ≡ variable_at k) (low : v < most_variables) where
-    pub linked-more : Linked k (set ns k (get_or fs v 0)) (set fs v k)
+    pub linked-more : Linked old k (set ns k (get_or fs v 0)) (set fs v k)
     linked-more = record {
       long = length-set ns k (get_or fs v 0) ∙ l.long;
       wide = length-set fs v k ∙ l.wide;

@@ -1,7 +1,7 @@
 // The net: what is kept beside the rows so that "before" can be followed label by label without walking from the root.
 #![tactic(auto)]
 
-ghost use Rattle.std.specs.Prelude.{◌≡◌, ℕ, ◌+◌, ◌*◌, ◌≤◌, ◌<◌, length, get_or};
+ghost use Rattle.std.specs.Prelude.{◌≡◌, ℕ, ◌+◌, ◌-◌, ◌*◌, ◌≤◌, ◌<◌, length, get_or};
 ghost use Rattle.paper.specs.Formula.{ℓ};
 ghost use Rattle.rows.specs.Rows.{kind_of};
 ghost use Rattle.rows.specs.Inside.Tree.{is_under, parent_of, guard_of};
@@ -92,10 +92,9 @@ fn climbed(c: &Choice, parents: &[u16; MOST_ROWS], at: Label) -> Label
     top
 }
 
-// Notes the row over each row, where none is noted yet.
+// Notes the row over each row.
 fn note_parents(c: &Choice, parents: &mut [u16; MOST_ROWS])
-    requires { Words most_rows (parent_of c.now.rows.now) 0 parents.old }
-    ensures { Words most_rows (parent_of c.now.rows.now) c.now.n parents.new }
+    ensures { Words most_rows (parent_of c.now.rows.now) 1 c.now.n parents.old parents.new }
 {
     for i in 1..c.n {
         parents[usize::from(i)] = climbed(c, parents, Label(i)).0;
@@ -119,12 +118,12 @@ fn guarded_by(c: &Choice, parents: &[u16; MOST_ROWS], guards: &[u16; MOST_ROWS],
     Label(top.0 + 1)
 }
 
-// Notes the star of the innermost guard around each row, where none is noted yet.
+// Notes the star of the innermost guard around each row.
 fn note_guards(c: &Choice, parents: &[u16; MOST_ROWS], guards: &mut [u16; MOST_ROWS])
-    requires { Words most_rows (parent_of c.now.rows.now) c.now.n parents.now
-        × Words most_rows (guard_of c.now.rows.now) 0 guards.old }
-    ensures { Words most_rows (guard_of c.now.rows.now) c.now.n guards.new }
+    requires { Parents c.now.rows.now c.now.n parents.now }
+    ensures { Words most_rows (guard_of c.now.rows.now) 0 (1 + (c.now.n - 1)) guards.old guards.new }
 {
+    guards[0] = 0;
     for i in 1..c.n {
         guards[usize::from(i)] = guarded_by(c, parents, guards, Label(i)).0;
     }
@@ -132,9 +131,8 @@ fn note_guards(c: &Choice, parents: &[u16; MOST_ROWS], guards: &mut [u16; MOST_R
 
 // Notes for each chosen label the next one of its variable, and for each variable its first, from the last label down.
 fn note_indices(c: &Choice, nexts: &mut [u16; SLOTS], firsts: &mut [u16; MOST_VARIABLES])
-    requires { Words slots (next_with c.now.rows.now c.now.chosen.now) 0 nexts.old }
-    ensures { Words slots (next_with c.now.rows.now c.now.chosen.now) (length c.now.chosen.now) nexts.new
-        × Words most_variables (λ v. first_with c.now.rows.now c.now.chosen.now v 0) most_variables firsts.new }
+    ensures { Words slots (next_with c.now.rows.now c.now.chosen.now) 0 (length c.now.chosen.now) nexts.old nexts.new
+        × Words most_variables (λ v. first_with c.now.rows.now c.now.chosen.now v 0) 0 most_variables firsts.old firsts.new }
 {
     firsts.fill(c.chosen.len() as u16);
     for k in (0..c.chosen.len()).rev() {
@@ -145,24 +143,17 @@ fn note_indices(c: &Choice, nexts: &mut [u16; SLOTS], firsts: &mut [u16; MOST_VA
     }
 }
 
-// The net of rows and chosen labels.
-pub fn net_of(c: &Choice) -> Net
-    ensures { Noted c.now.rows.now c.now.chosen.now c.now.n result }
+// Notes the net of rows and chosen labels. It is lent: one that is handed back takes its size again on the stack.
+pub fn note_net(c: &Choice, net: &mut Net)
+    ensures { Noted c.now.rows.now c.now.chosen.now c.now.n net.old net.new }
 {
-    let mut net = Net {
-        parents: [0; MOST_ROWS],
-        guards: [0; MOST_ROWS],
-        nexts: [0; SLOTS],
-        firsts: [0; MOST_VARIABLES],
-    };
     note_parents(c, &mut net.parents);
     note_guards(c, &net.parents, &mut net.guards);
     note_indices(c, &mut net.nexts, &mut net.firsts);
-    net
 }
 
 // Whether candidates i and j share a branch, and what that tells of the labels after i: i itself where they do, else a label
-// above it below which none from i on shares a branch with j.
+// above it below which none from i on shares a branch with j. One label says both, as `Cleared` has it.
 pub fn clear_of(rows: &[u16], net: &Net, n: u16, i: Label, j: Label) -> Label
     requires { Tree rows.now n × Parents rows.now n net.now.parents × (i.0 < n) × (j.0 < n)
         × (kind_of rows.now i.0 ≡ 2) × (kind_of rows.now j.0 ≡ 2) }

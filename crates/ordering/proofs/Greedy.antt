@@ -155,7 +155,7 @@ module _ (g : Graph) where
       long = length-take-le count out (omega (arith, p.size, p.counted, s.small))
 
   -- at the start
-  pub state-first : (finger : List ℕ) → g.size < slots → Started g finger → State g 0 (replicate slots 0) finger (replicate slots 2048) (replicate slots 2048)
+  state-first : (finger : List ℕ) → g.size < slots → Started g finger → State g 0 (replicate slots 0) finger (replicate slots 2048) (replicate slots 2048)
   state-first finger h s = record {
     small = h;
     places = length-replicate {A = ℕ} slots 0;
@@ -167,6 +167,10 @@ module _ (g : Graph) where
     awaits = λ j hj hw e. absurd (omega (arith, get_or-replicate {A = ℕ} slots j 2048 0 (omega arith)));
     blocked = λ j hj e. absurd (omega arith);
   }
+
+  pub state-filled : (finger wait low : List ℕ) (#L : ℕ) → g.size < slots → Started g finger → #L ≡ slots → wait ≡ replicate #L 2048 → low ≡ replicate #L 2048
+      → State g 0 (replicate slots 0) finger wait low
+  state-filled finger wait low #L h s n e f = rw (e, f, n) (state-first finger h s)
 
   pub placing-first : (chosen out : List ℕ) → g.size < slots → length out ≡ slots → Placing g chosen 0 (replicate slots 0) out out
   unfolding left_of free

@@ -88,9 +88,11 @@ pub fn order(g: &Following, out: &mut [u16; SLOTS]) -> usize
     let mut placed = [0; SLOTS];
     let mut waits = Waits {
         finger: [0; SLOTS],
-        wait: [NO_INDEX; SLOTS],
-        low: [NO_INDEX; SLOTS],
+        wait: [0; SLOTS],
+        low: [0; SLOTS],
     };
+    waits.wait.fill(NO_INDEX); // filled here: arrays that are moved in take their size again on the stack
+    waits.low.fill(NO_INDEX);
     start(&g.choice, &mut waits.finger);
     let mut count = 0;
     let mut from = 0;

@@ -15,10 +15,10 @@ use cycles::lowest_on_cycle;
 use fingers::Following;
 use keys::{keys_of, total_of};
 use marks::marks_of;
-use net::{Choice, net_of};
+use net::{Choice, Net, note_net};
 use ordering::order;
 use paper::{Label, Refusal};
-use paper::limits::{MOST_DEPTH, MOST_ROWS, MOST_TRANSITIONS, SLOTS};
+use paper::limits::{MOST_DEPTH, MOST_ROWS, MOST_TRANSITIONS, MOST_VARIABLES, SLOTS};
 use paper::refusals::{Fault, refusal_at};
 use table::Layout;
 
@@ -55,7 +55,13 @@ fn ordered(
         chosen,
         n: l.rows as u16,
     };
-    let net = net_of(&choice);
+    let mut net = Net {
+        parents: [0; MOST_ROWS],
+        guards: [0; MOST_ROWS],
+        nexts: [0; SLOTS],
+        firsts: [0; MOST_VARIABLES],
+    };
+    note_net(&choice, &mut net);
     let following = Following {
         choice,
         reads,

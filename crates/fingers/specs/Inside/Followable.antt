@@ -17,8 +17,8 @@ pub record Followable (rows reads chosen : List ℕ) (net : Net) (#N : ℕ) : Ty
   pub guarded : (a : ℕ) → a < #N → 4 < kind_of rows a → kind_of rows (a + 1) ≡ 1
 
 -- it has one proof at most, as a fact that a value keeps must have
-pub Followable-prop : (rows reads chosen : List ℕ) (net : Net) (#N : ℕ) → IsProp (Followable rows reads chosen net #N)
-Followable-prop rows reads chosen net #N x y =
+pub Followable-prop : {rows reads chosen : List ℕ} {net : Net} {#N : ℕ} → IsProp (Followable rows reads chosen net #N)
+Followable-prop {rows} {reads} {chosen} {net} {#N} x y =
     let read_prop : IsProp ((s : ℕ) → s < #N → kind_of rows s ≡ 1 → from_of rows s + arg_of rows s ≤ length reads) = hlevel props in
     let few_prop : IsProp (length reads ≤ most_reads) = hlevel props in
     let variables_prop : IsProp ((r : ℕ) → r < length reads → get_or reads r 0 < most_variables) = hlevel props in

@@ -8,7 +8,8 @@ use borrow.Author.Rules.{rules}
 use Rattle.rows.specs.contracts.form.Form.{the_type}
 use Rattle.rows.proofs.Rules.{number_of}
 use Rattle.rows.specs.Inside.Tree.{is_under}
-use Rattle.net.proofs.Clear.{is_conjunction, conjunction-form, Pair, Upward, top_below, upward-first, upward-next, cleared-same, cleared-joined, cleared-before, cleared-after}
+use Rattle.net.proofs.Clear.{is_conjunction, conjunction-form, Pair, Upward, top_below, upward-first, upward-next}
+use Rattle.net.proofs.Clear.{cleared-same, cleared-joined, cleared-before, cleared-after}
 use Rattle.net.proofs.clear_of.Goals.{After-loop-below, After-label_at-top-in-loop-below, At-loop-below}
 use Rattle.net.proofs.clear_of.Goals as goal
 
@@ -51,7 +52,8 @@ loop-below-preserved c = next (goal.at.loop-below-preserved c).After-label_at-to
 pub returns-then-eq : goal.returns-then-eq
 returns-then-eq c =
     let w = goal.at.returns-then-eq c in
-    cleared-joined (two w.At-loop-below) c.loop-below.invariant (over w.After-loop-below) (is_conjunction _ (sym c.form_of.ensures ∙ same_true the_type (search rules) _ _ (sym c.if-eq.ensures)))
+    cleared-joined (two w.At-loop-below) c.loop-below.invariant (over w.After-loop-below)
+    (is_conjunction _ (sym c.form_of.ensures ∙ same_true the_type (search rules) _ _ (sym c.if-eq.ensures)))
 
 pub returns-then-i-below : goal.returns-then-i-below
 returns-then-i-below c =

@@ -6,7 +6,7 @@ use Rattle.net.proofs.Chains.{linked-none, linked-more, linked-all}
 use Rattle.net.proofs.note_indices.Goals as goal
 
 pub loop-k-init : goal.loop-k-init
-loop-k-init c = linked-none _ _ c.requires c.told-firsts (c.fill.ensures.after (λ y e. e))
+loop-k-init c = linked-none _ _ c.told-nexts c.told-firsts (c.fill.ensures.after (λ y e. e))
 
 pub loop-k-preserved : goal.loop-k-preserved
 loop-k-preserved c =
@@ -17,4 +17,4 @@ loop-k-preserved c =
     linked-more _ _ _ _ _ c.loop-k.invariant (omega arith) (omega arith) (omega arith) of (omega arith)
 
 pub returns : goal.returns
-returns c = linked-all _ _ c.loop-k.invariant (omega arith)
+returns c = linked-all _ _ c.loop-k.invariant (omega arith) c.told-firsts

@@ -39,11 +39,12 @@ pub record Guards (rows : List ℕ) (#N : ℕ) (words : List ℕ) : Type 0 where
   pub size : length words ≡ most_rows
   pub guards : (i : ℕ) → i < #N → get_or words i 0 ≡ guard_of rows i
 
--- so many words: f of its position in each of the first #M, and 0 in the others
-pub record Words (#L : ℕ) (f : ℕ → ℕ) (#M : ℕ) (words : List ℕ) : Type 0 where
+-- so many words, of which those from #A up to #M are noted: each is f of its position, and the others are as they were
+pub record Words (#L : ℕ) (f : ℕ → ℕ) (#A #M : ℕ) (old words : List ℕ) : Type 0 where
   pub size : length words ≡ #L
-  pub given : (i : ℕ) → i < #M → get_or words i 0 ≡ f i
-  pub others : (i : ℕ) → #M ≤ i → get_or words i 0 ≡ 0
+  pub given : (i : ℕ) → #A ≤ i → i < #M → get_or words i 0 ≡ f i
+  pub before : (i : ℕ) → i < #A → get_or words i 0 ≡ get_or old i 0
+  pub behind : (i : ℕ) → #M ≤ i → get_or words i 0 ≡ get_or old i 0
 
 module _ (rows chosen : List ℕ) where
   -- the index of the first chosen label of v from index k on, or how many there are
@@ -61,12 +62,12 @@ module _ (rows chosen : List ℕ) where
     pub nexts : (k : ℕ) → k < length chosen → get_or net.nexts k 0 ≡ next_with k
     pub firsts : (v : ℕ) → v < most_variables → get_or net.firsts v 0 ≡ first_with v 0
 
-  -- the net that is made, word by word: those past the rows and past the chosen labels are 0
-  pub record Noted (#N : ℕ) (net : Net) : Type 0 where
-    pub parents : Words most_rows (parent_of rows) #N net.parents
-    pub guards : Words most_rows (guard_of rows) #N net.guards
-    pub nexts : Words slots next_with (length chosen) net.nexts
-    pub firsts : Words most_variables (λ v. first_with v 0) most_variables net.firsts
+  -- The net afterwards, word by word. Row 0 has no row over it, and no guard: its word is 0, whether there are rows or not.
+  pub record Noted (#N : ℕ) (old net : Net) : Type 0 where
+    pub parents : Words most_rows (parent_of rows) 1 #N old.parents net.parents
+    pub guards : Words most_rows (guard_of rows) 0 (1 + (#N - 1)) old.guards net.guards
+    pub nexts : Words slots next_with 0 (length chosen) old.nexts net.nexts
+    pub firsts : Words most_variables (λ v. first_with v 0) 0 most_variables old.firsts net.firsts
 
 module _ (rows : List ℕ) where
   -- the first row past row a whose subtree holds row j

@@ -1,8 +1,11 @@
 -- The loop's invariant: the indices below `from` are placed or wait, and the labels placed so far stand in `out`. The measure is how
 -- many may still be placed.
+use Prim.Native.Nat.{ℕ}
 use native.Mathlib.Omega.{arith}
+use lib.ListN.{length-replicate}
+use Rattle.paper.specs.Limits.{slots}
 use Rattle.ordering.specs.Inside.Reported.{ordered}
-use Rattle.ordering.proofs.Greedy.{state-first, placing-first, state-after, not_full, placing-more, placing-done}
+use Rattle.ordering.proofs.Greedy.{state-filled, placing-first, state-after, not_full, placing-more, placing-done}
 use Rattle.fingers.proofs.Seeking.{started}
 use Rattle.ordering.proofs.order.Goals as goal
 
@@ -10,7 +13,11 @@ pub loop-k-init : goal.loop-k-init
 loop-k-init c =
     let r = c.args.g.now.ready in
     let few = r.choice.few in
-    (omega arith, state-first _ _ (omega arith) (started _ _ _ _ _ _ _ r c.start.ensures), placing-first _ _ _ (omega arith) c.requires)
+    let start = started _ _ _ _ _ _ _ r c.start.ensures in (
+      omega arith,
+      state-filled _ _ _ _ _ (omega arith) start (length-replicate {A = ℕ} slots 0) (c.fill.ensures.after (λ y e. e)) (c.fill-2.ensures.after (λ y e. e)),
+      placing-first _ _ _ (omega arith) c.requires,
+    )
 
 pub loop-k-smaller : goal.loop-k-smaller
 loop-k-smaller c = let z = not_full _ _ _ _ _ _ _ _ _ _ c.in-Some.ensures c.loop-k.invariant.2 in omega arith

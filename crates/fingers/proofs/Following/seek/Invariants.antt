@@ -7,9 +7,10 @@ use Rattle.fingers.proofs.Following.seek.Given as goal
 
 abbrev pub invariant-loop-p : goal.invariant-loop-p
 invariant-loop-p l =
-    Sought l.self.choice.rows.now l.self.reads.now l.self.choice.chosen.now l.self.choice.n (outside l.mark l.b) l.j (l.finger / 4294967296) (l.finger / 65536 % 65536) (l.finger % 65536)
+    let c = l.self.choice in
+    Sought c.rows.now l.self.reads.now c.chosen.now c.n (outside l.mark l.b) l.j (l.finger / 4294967296) (l.finger / 65536 % 65536) (l.finger % 65536)
     l.p.star.0 l.p.read l.p.next
-    × Apart l.self.choice.rows.now l.self.choice.chosen.now l.j l.known.from.0 l.known.to.0
+    × Apart c.rows.now c.chosen.now l.j l.known.from.0 l.known.to.0
 
 abbrev pub decreases-loop-p : goal.decreases-loop-p
 decreases-loop-p l = ahead l.self.choice.rows.now l.self.choice.chosen.now l.p.star.0 l.p.read l.p.next

@@ -1,5 +1,4 @@
 -- Each way out of a visit has its law: the index is placed, still waits, is blocked, or is ready.
-use native.Mathlib.Omega.{arith}
 use mathlib.Core.Path.{refl}
 use borrow.Author.Tests.{eq-eqb, ne_eqb}
 use Rattle.fingers.specs.Inside.Graph.{free}
@@ -9,9 +8,6 @@ use Rattle.ordering.proofs.Waits.visit.Goals as goal
 pub returns-then-placed-k-ne0 : goal.returns-then-placed-k-ne0
 unfolding free
 returns-then-placed-k-ne0 c = visit-placed _ _ _ _ _ _ c.requires.1 c.requires.0 _ refl (ne_eqb _ 0 c.if-placed-k-ne0.true)
-
-pub seek-x-requires : goal.seek-x-requires
-seek-x-requires c = let a = c.requires in record { low = omega arith; here = a.0; finger = a.1.within _ a.0 }
 
 pub returns-then-l-size : goal.returns-then-l-size
 returns-then-l-size c =

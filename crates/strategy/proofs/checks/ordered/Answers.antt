@@ -16,7 +16,7 @@ pub invariant_of-choice : goal.invariant_of-choice
 invariant_of-choice c = record { made = choice c.requires.0 }
 
 pub invariant_of-following : goal.invariant_of-following
-invariant_of-following c = record { ready = readied c.requires.0 (is_net c.net_of-net.ensures) }
+invariant_of-following c = record { ready = readied c.requires.0 (is_net c.note_net.ensures) }
 
 pub offset_bounds-chosen-k : goal.offset_bounds-chosen-k
 offset_bounds-chosen-k c =
