@@ -88,8 +88,8 @@ impl<'a> Pen<'a> {
         ensures put { Puts self.old (fields (positions kept.now)) self.new }
         ensures upper_bound { self.new.at ≤ self.old.at + 6 * length kept.now }
     {
-        for i in 0..kept.len() {
-            self.position(Label(i as u16), kept[i]);
+        for (i, byte) in kept.iter().enumerate() {
+            self.position(Label(i as u16), *byte);
         }
     }
 
