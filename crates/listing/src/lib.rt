@@ -35,7 +35,7 @@ impl<'a> Pen<'a> {
         self.at = after;
     }
 
-    // A number in decimal: the digits of its tenth, and its last one.
+    // A number in decimal: the digits of its tenth, and its last one. No contract of the library says what `write!` puts into a slice.
     pub fn decimal(&mut self, n: u32)
         requires { Room self.old (length (decimal n)) }
         ensures put { Puts self.old (decimal n) self.new }
