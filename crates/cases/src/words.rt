@@ -27,7 +27,8 @@ fn entry(text: &[u8], i: u16) -> Option<(u16, &[u8])>
     Some((base.checked_add(step.checked_mul(i)?)?, rest))
 }
 
-// The words that are laid out so far, in front of the room for them. What makes no words, or has no room, gives nothing.
+// The words that are laid out so far, in front of the room for them. What makes no words, or has no room, gives nothing. A `Vec` would
+// take the heap, and an `ArrayVec` is of no crate that this repository rests on.
 #[derive(Drop)]
 pub struct Words {
     room: [u16; ROOM],

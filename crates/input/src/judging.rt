@@ -10,7 +10,11 @@ use strategy::{Accepted, judge_into};
 
 // The answer to any bytes, at most 65,536, whose words these are. Of accepted ones the reported order stands in front of `order`; a
 // refusal leaves it as it was.
-pub fn judge_bytes(bytes: &[u8], words: &[u16], order: &mut [u16; SLOTS]) -> Result<Accepted, Refusal>
+pub fn judge_bytes(
+    bytes: &[u8],
+    words: &[u16],
+    order: &mut [u16; SLOTS],
+) -> Result<Accepted, Refusal>
     requires { (length bytes.now ≤ most_bytes) × (words.now ≡ words_of bytes.now) × (length order.old ≡ slots) }
     ensures { JudgedBytes bytes.now order.old order.new result }
 {

@@ -7,7 +7,8 @@ use paper::Refusal;
 use paper::limits::MOST_ROWS;
 use strategy::Accepted;
 
-// The basis of words that are judged so; of refused ones there are no lines, and no label is marked.
+// The basis of words that are judged so; of refused ones there are no lines, and no label is marked. No
+// Option: `judged` says already of which words there is one.
 pub fn basis_if_accepted(words: &[u16], judged: Result<Accepted, Refusal>) -> Basis
     requires { AcceptedIf words.now judged }
     ensures { BasedIf words.now judged result }

@@ -6,7 +6,8 @@ ghost use Rattle.paper.specs.Limits.{most_bytes};
 
 use std::io;
 
-// How many bytes were read, and whether a reading call gave no more of them.
+// How many bytes were read, and whether a reading call gave no more of them. A pair, since `ReadSo` (`specs/Running.antt`), which a signer
+// reads, says both of one value.
 #[derive(Clone, Copy)]
 pub struct Read {
     pub count: usize,

@@ -4,7 +4,7 @@ ghost use Rattle.lister.specs.Running.{Reached};
 ghost use Rattle.lister.specs.Inside.Steps.{Prepared};
 
 use crate::basis::basis_if_accepted;
-use crate::output::{Written, is_whole, nothing_yet, write_next};
+use crate::output::Written;
 use crate::parts::{pieces_of, put_part};
 use listing::Pen;
 use paper::Refusal;
@@ -27,7 +27,7 @@ pub fn write_listing(
     let count = pieces_of(judged);
     let mut text = [0u8; MOST_BYTES];
     let mut next = 0;
-    let mut written = nothing_yet();
+    let mut written = Written::nothing_yet();
     while next < count {
         let mut pen = Pen {
             buf: &mut text,
@@ -35,8 +35,8 @@ pub fn write_listing(
         };
         let after = put_part(words, judged, &basis, order, next, &mut pen);
         let length = pen.at;
-        written = write_next(rt, bytes, written, &text[..length]);
-        if !is_whole(written) {
+        written = written.write_next(rt, bytes, &text[..length]);
+        if !written.is_whole() {
             return written;
         }
         next = after;

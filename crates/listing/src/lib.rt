@@ -35,7 +35,7 @@ impl<'a> Pen<'a> {
         self.at = after;
     }
 
-    // A number in decimal: the digits of its tenth, and its last one.
+    // A number in decimal: the digits of its tenth, and its last one. No contract of the library says what `write!` puts into a slice.
     pub fn decimal(&mut self, n: u32)
         requires { Room self.old (length (decimal n)) }
         ensures put { Puts self.old (decimal n) self.new }
@@ -88,8 +88,8 @@ impl<'a> Pen<'a> {
         ensures put { Puts self.old (fields (positions kept.now)) self.new }
         ensures upper_bound { self.new.at ≤ self.old.at + 6 * length kept.now }
     {
-        for i in 0..kept.len() {
-            self.position(Label(i as u16), kept[i]);
+        for (i, byte) in kept.iter().enumerate() {
+            self.position(Label(i as u16), *byte);
         }
     }
 

@@ -1,6 +1,6 @@
 -- What the lister's functions ask for and leave: accepted words with their order, and the parts of a listing.
-use Rattle.std.specs.Prelude.{ℕ, zero, suc, ◌+◌, ◌-◌, ◌*◌, ◌≤◌, cond, List, [], ◌++◌, ◌≡◌, ltb, length, Result, Ok, Err}
-use Rattle.paper.specs.Limits.{most_bytes, most_rows, most_transitions, most_variables, slots}
+use Rattle.std.specs.Prelude.{ℕ, zero, suc, ◌+◌, ◌-◌, ◌*◌, cond, List, [], ◌++◌, ◌≡◌, ltb, length, Result, Ok, Err}
+use Rattle.paper.specs.Limits.{most_bytes}
 use Rattle.table.specs.declared.Layout.{Layout}
 use Rattle.keys.specs.declared.Distinct.{Distinct}
 use Rattle.strategy.specs.declared.Accepted.{Accepted}
