@@ -15,11 +15,11 @@ import sys
 # A function without a statement of a kind, and why: (crate, file, statement): reason
 EXCEPTIONS = {}
 
-# What is said, and what a refusal is, by the error of a `Result` or the type of the result. A public function whose result is a u64
-# answers C, packed.
+# What is said, and what a refusal is, by the error of a `Result` or the type of the result: a function with any `Result` can refuse, and one
+# whose result is a u64 answers C, packed.
 SAID = "Rattle.paper.specs.Outcome"
 REFUSAL = {
-    "Refusal": "Rattle.paper.specs.Refusals.IsRefusal",
+    "error Refusal": "Rattle.paper.specs.Refusals.IsRefusal",
     "u64": "Rattle.nocturenc.specs.Packed.IsPackedRefusal",
 }
 
@@ -45,7 +45,7 @@ GENERIC = {
         " ({path}.Reads.Pre T L C K D) ({path}.Reads.Post T L C K D)"
     ),
     ("RefusalLeaves", "filling::fill"): (
-        f"{COPIED}{{said}}.RefusalLeaves ({{path}}.Kinds.ps T L C) ({{path}}.Kinds.r T L C) (λ κs. {REFUSAL['Refusal']})"
+        f"{COPIED}{{said}}.RefusalLeaves ({{path}}.Kinds.ps T L C) ({{path}}.Kinds.r T L C) (λ κs. {REFUSAL['error Refusal']})"
         " (λ κs a. (tt, (a.1.0.now, tt))) ({path}.Reads.Pre T L C K D) ({path}.Reads.Post T L C K D)"
     ),
 }
@@ -95,6 +95,12 @@ def parts(parameters):
     return [p for p in found if p.strip()]
 
 
+def told(result):
+    """What a result is known by: of a `Result` its error, behind a mark; else the type."""
+    whole = re.match(r"Result<(.*)>$", result)
+    return f"error {parts(whole.group(1))[-1].strip()}" if whole else result
+
+
 def public_functions(crate):
     """The public functions of a crate's source, in their order."""
     found = []
@@ -107,10 +113,10 @@ def public_functions(crate):
         methods = [(name, start, closing(text, start)) for name, start in methods]
         for item in re.finditer(r'\bpub\b\s*(?:\([^)]*\)\s*)?(extern\s*""\s*)?fn\s+(\w+)\s*(?:<(?:->|[^<>])*>)?\s*\(', text):
             end = closing(text, item.end() - 1)
-            result = re.match(r"\s*->\s*(?:Result<\w+,\s*)?(\w+)", text[end + 1 :])
+            result = re.match(r"\s*->\s*([^\n{]+)", text[end + 1 :])
             owner = [name for name, start, stop in methods if start < item.start() < stop]
             parameters = parts(text[item.end() : end])
-            found.append(Function(crate, modules + owner, item.group(2), bool(item.group(1)), parameters, result and result.group(1)))
+            found.append(Function(crate, modules + owner, item.group(2), bool(item.group(1)), parameters, result and told(result.group(1).strip())))
     return found
 
 
@@ -229,7 +235,7 @@ def main():
     number = refusing = owners = 0
     for crate in libraries:
         functions = public_functions(crate)
-        can_refuse = [f for f in functions if any(f.lent) and (f.exported or f.result in REFUSAL)]
+        can_refuse = [f for f in functions if any(f.lent) and (f.exported or (f.result or "").startswith("error ") or f.result in REFUSAL)]
         compare(crate, "OneOutcome", functions, one_outcome)
         compare(crate, "RefusalLeaves", can_refuse, refusal_leaves)
         number, refusing, owners = number + len(functions), refusing + len(can_refuse), owners + bool(functions)

@@ -30,7 +30,8 @@ module _ {lent left : List ℕ} {s : ℕ} (o : Outcome ℕ) (f : FillsPacked o l
         ap (λ i. drop i left) many ∙ ap (drop (length ws)) g.left_so ∙ drop-append_seam ws (drop (length ws) lent) ∙ ap (λ i. drop i lent) (sym many),
       )
 
-  pub refuses-so : (fault : Fault) (place n : ℕ) → o ≡ refuses (refusal fault place) → n ≡ place → (refusal_number s ≡ fault_number fault) × (refusal_place s ≡ n) × (left ≡ lent)
+  pub refuses-so : (fault : Fault) (place n : ℕ) → o ≡ refuses (refusal fault place) → n ≡ place
+      → (refusal_number s ≡ fault_number fault) × (refusal_place s ≡ n) × (left ≡ lent)
   refuses-so fault place n e same =
       let g : FillsPacked (refuses (refusal fault place)) lent left s = subst (λ x. FillsPacked x lent left s) e f in
       (g.read_so.number_is, g.read_so.place_is ∙ sym same, g.left_so)

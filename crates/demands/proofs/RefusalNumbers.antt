@@ -44,7 +44,8 @@ gives-or true x y g h = g
 gives-or false x y g h = h
 
 -- a check that halts with this number, and then what follows
-check : (b : Bool) (fault : Fault) (place : ℕ) (next : Result Cursor Refusal) → JudgeGives (fault_number fault) → StepGives next → StepGives (cond b (halt fault place) next)
+check : (b : Bool) (fault : Fault) (place : ℕ) (next : Result Cursor Refusal) → JudgeGives (fault_number fault) → StepGives next
+    → StepGives (cond b (halt fault place) next)
 check b fault place next g h = gives-or b (halt fault place) next g h
 
 open_gives : (part : List ℕ) (c : Cursor) (low high width : ℕ) → StepGives (open_at part c low high width)

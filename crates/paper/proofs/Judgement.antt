@@ -43,7 +43,8 @@ module _ {A : Type 0} (place : A → ℕ) (k : Fault) where
   passed [] next e = (refl, e)
   passed (x ∷ xs) next e = let z : ◌≡◌ {A = ℕ} 0 1 = cc in absurd (omega arith)
 
-  not-refused : (xs : List A) (next : Judgement) {m : Fault} {p : ℕ} → (k ≡ m → ⊥) → refuse k (map place xs) next ≡ refused (refusal m p) → next ≡ refused (refusal m p)
+  not-refused : (xs : List A) (next : Judgement) {m : Fault} {p : ℕ} → (k ≡ m → ⊥)
+      → refuse k (map place xs) next ≡ refused (refusal m p) → next ≡ refused (refusal m p)
   not-refused [] next d e = e
   not-refused (x ∷ xs) next d e = absurd (d (same_fault e))
 

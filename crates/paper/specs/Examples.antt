@@ -180,4 +180,5 @@ pub record Places : Type 0 where
   pub doubled_lowest : judge 2 crowded (numbered (1 ∷ 3 ∷ 5 ∷ 7 ∷ [])) ≡ refused (refusal (fault_of 12) 0)
   pub on_cycle_lowest : judge 2 crowded (numbered (1 ∷ 5 ∷ [])) ≡ refused (refusal (fault_of 13) 1)
   -- not: a label that hangs on a cycle, as 1 in y' in s(x) and x' in s(x)
-  pub not_hanging_on_one : judge 2 (conjunction (ℓ 0) (assign 1 1 (0 ∷ []) ⨾ only (assign 3 0 (0 ∷ [])))) (numbered (1 ∷ 3 ∷ [])) ≡ refused (refusal (fault_of 13) 3)
+  pub not_hanging_on_one :
+      judge 2 (conjunction (ℓ 0) (assign 1 1 (0 ∷ []) ⨾ only (assign 3 0 (0 ∷ [])))) (numbered (1 ∷ 3 ∷ [])) ≡ refused (refusal (fault_of 13) 3)

@@ -2,8 +2,9 @@
 -- the header for C has its name in capitals; and the refusal for a reason, at a place.
 use Rattle.std.specs.Prelude.{ℕ, cond, List, [], ◌∷◌, Result, Ok, Err, eqb}
 use Rattle.paper.specs.declared.refusals.Fault.{Fault}
-use Rattle.paper.specs.declared.refusals.Fault.TheVariants.{Absent, CountOutOfRange, NameNotAbove, ReadBeyond, RowBroken, ReadsLeft, TooDeep, EntryUnfit, WordsFollow}
-use Rattle.paper.specs.declared.refusals.Fault.TheVariants.{NoCandidate, VariableMissed, VariableTwice, NoOrder, TooMany, NoSuchTransition, Uneven, OutTooShort, OddBytes}
+use Rattle.paper.specs.declared.refusals.Fault.TheVariants.{Absent, CountOutOfRange, NameNotAbove, ReadBeyond, RowBroken, ReadsLeft}
+use Rattle.paper.specs.declared.refusals.Fault.TheVariants.{TooDeep, EntryUnfit, WordsFollow, NoCandidate, VariableMissed, VariableTwice}
+use Rattle.paper.specs.declared.refusals.Fault.TheVariants.{NoOrder, TooMany, NoSuchTransition, Uneven, OutTooShort, OddBytes}
 use Rattle.paper.specs.declared.Refusal.{Refusal}
 
 abbrev pub fault_number : Fault → ℕ

@@ -52,7 +52,8 @@ here-by : (b : Bool) (x row : Row) → cond b (Some x) None ≡ Some row → b �
 here-by true x row e = refl
 here-by false x row e = let z : ◌≡◌ {A = ℕ} 0 1 = cc in absurd (omega arith)
 
-before-few : (words : List ℕ) (i : ℕ) (row : Row) (s : Result Cursor Refusal) → ((c : Cursor) → s ≡ Ok c → RowsThere words c) → found_in words i s ≡ Some row → i < most_rows
+before-few : (words : List ℕ) (i : ℕ) (row : Row) (s : Result Cursor Refusal) → ((c : Cursor) → s ≡ Ok c → RowsThere words c)
+    → found_in words i s ≡ Some row → i < most_rows
 before-few words i row (Err r) there e = let z : ◌≡◌ {A = ℕ} 0 1 = cc in absurd (omega arith)
 before-few words i row (Ok c) there e =
     let t = there c refl in

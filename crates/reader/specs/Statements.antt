@@ -1,4 +1,4 @@
--- What is promised of a table reader's places beyond the promises of its functions (proofs/Ok.antt).
+-- What is promised of a table reader's places beyond the promises of its functions (proofs/Sound.antt).
 use Rattle.std.specs.Prelude.{ℕ, ◌<◌, ◌≤◌, List, ◌≡◌, Some, None, Ok}
 use Rattle.table.specs.declared.Layout.{Layout}
 use Rattle.rows.specs.Rows.{end_of}

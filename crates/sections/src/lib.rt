@@ -65,6 +65,9 @@ impl Cursor {
         })
     }
 
+    // Each section's answer is taken apart by `let .. else`, and not by `?`: document 01 names that form ("one wholly checked before the
+    // next").
+
     // Section 1: names, strictly ascending.
     pub fn variables(self, part: &[u16]) -> Result<Cursor, Refusal>
         requires { self.at ≤ 65536 }

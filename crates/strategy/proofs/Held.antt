@@ -1,4 +1,4 @@
--- Ok words have sound parts (specs/Inside/Parts.antt), and sound parts are what the walks, the net and the order ask for:
+-- Sound words have sound parts (specs/Inside/Parts.antt), and sound parts are what the walks, the net and the order ask for:
 -- their rows write the formula that is read from them, form one tree, and have stars whose reads are there.
 use Prim.Native.Nat.{ℕ, zero, suc, ◌+◌, ◌-◌, ◌*◌, ◌<◌, ◌≤◌}
 use native.Mathlib.Omega.{arith}

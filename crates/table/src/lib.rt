@@ -22,7 +22,7 @@ pub struct Layout {
     pub chosen_at: usize,
 }
 
-// All sections, each handed on from its first word.
+// All sections, each handed on from its first word. Document 01 names `let .. else` for it ("one wholly checked before the next").
 fn sections(words: &[u16]) -> Result<Cursor, Refusal>
     ensures { result ≡ sections words.now }
 {

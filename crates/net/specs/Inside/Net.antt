@@ -62,7 +62,8 @@ module _ (rows chosen : List ℕ) where
     pub nexts : (k : ℕ) → k < length chosen → get_or net.nexts k 0 ≡ next_with k
     pub firsts : (v : ℕ) → v < most_variables → get_or net.firsts v 0 ≡ first_with v 0
 
-  -- The net afterwards, word by word. Row 0 has no row over it, and no guard: its word is 0, whether there are rows or not.
+  -- The net afterwards, word by word. Row 0 has no row over it, so that word stays; it has no guard, so that word is 0, whether there are
+  -- rows or not.
   pub record Noted (#N : ℕ) (old net : Net) : Type 0 where
     pub parents : Words most_rows (parent_of rows) 1 #N old.parents net.parents
     pub guards : Words most_rows (guard_of rows) 0 (1 + (#N - 1)) old.guards net.guards

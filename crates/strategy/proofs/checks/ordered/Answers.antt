@@ -30,7 +30,8 @@ bounds-chosen-k c =
 
 pub returns-then-placed-chosen : goal.returns-then-placed-chosen
 returns-then-placed-chosen c =
-    cycle-refused _ c.requires.0 c.order-placed.ensures _ c.if-placed-chosen.true c.lowest_on_cycle-k.ensures (ap Err (c.refusal_at.ensures ∙ ap (refusal NoOrder) c.from.ensures))
+    cycle-refused _ c.requires.0 c.order-placed.ensures _ c.if-placed-chosen.true c.lowest_on_cycle-k.ensures
+    (ap Err (c.refusal_at.ensures ∙ ap (refusal NoOrder) c.from.ensures))
 
 pub counted-requires : goal.counted-requires
 counted-requires c = walkable c.requires.0.parts
