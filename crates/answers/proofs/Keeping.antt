@@ -45,12 +45,11 @@ use Rattle.transitions.proofs.MarkedBytes.{length-bytes}
 use Rattle.transitions.proofs.Words.{kept-labels, as-many-ordered}
 use Rattle.transitions.proofs.Numbered.{transition-says, transition-keepable}
 use Rattle.answers.specs.Requests.{reported, key_of, kept_marks, assigned_of}
-use Rattle.answers.specs.declared.numbered.Basis.{Basis}
 use Rattle.answers.specs.Inside.Judged.{Amounts, AcceptedAs, Ordered, Based, BasedExactly, Assigned}
 use Rattle.answers.proofs.Accepted.{is-sound, is-understood, is-strategy, count_is, few-transitions, few-chosen, reported-length}
 
 -- what is made to work the transitions out from serves for it
-pub is-based : (words : List ℕ) (l : Layout) {basis : Basis} → BasedExactly words l basis → Based words l basis.marks basis.own
+pub is-based : (words : List ℕ) (l : Layout) {marks : List ℕ} {own : Distinct} → BasedExactly words l marks own → Based words l marks own
 is-based words l b = record { marked = b.marked.marked; own_are = b.own_are }
 
 relabelled : (ls : List Label) → map ℓ (map (λ (i : Label). i.0) ls) ≡ ls
@@ -100,9 +99,9 @@ module _ (words : List ℕ) (a : Accepted) (e : AcceptedAs words a) where
   lent-walkable = rw rows-lent (walkable (parts-of words l (is-sound words a e)))
 
   -- what the transitions are worked out from
-  pub based-so : {basis : Basis} → MarkedExactly (map ℓ lent_chosen) basis.marks → basis.own ≡ keys_at lent_rows basis.marks most_depth 0
-      → BasedExactly words l basis
-  based-so {basis} m n = record { marked = subst (λ ws. MarkedExactly (map ℓ ws) basis.marks) chosen-lent m; own_are = rw rows-lent at n }
+  pub based-so : {marks : List ℕ} {own : Distinct} → MarkedExactly (map ℓ lent_chosen) marks → own ≡ keys_at lent_rows marks most_depth 0
+      → BasedExactly words l marks own
+  based-so {marks} m n = record { marked = subst (λ ws. MarkedExactly (map ℓ ws) marks) chosen-lent m; own_are = rw rows-lent at n }
 
   pub marks-length : (k : ℕ) → length (kept_marks words l k) ≡ l.rows
   marks-length k = rw u.labels_are (length-bytes (is_kept f A (key_of words l k)) l.rows)

@@ -2,7 +2,7 @@
 // judged. specs/Requests.antt says what is answered to any words.
 #![tactic(auto)]
 
-pub mod judged; // transitions and assignments as requests, for a caller that has judged
+pub mod judged; // an accepted table, and its transitions and assignments as requests
 pub mod numbered; // transition k by itself: its bytes, and its chosen labels in order
 
 ghost use Rattle.std.specs.Prelude.{◌≡◌};

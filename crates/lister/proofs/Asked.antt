@@ -4,7 +4,7 @@ use Prim.Native.Nat.{ℕ, ◌+◌, ◌*◌, ◌/◌, ◌^◌, ◌<◌, ◌≤◌
 use native.Mathlib.Omega.{arith}
 use mathlib.Core.Path.{◌≡◌, refl, sym, ap, subst, ◌∙◌}
 use mathlib.Core.Bool.{Bool, true, false, cond}
-use mathlib.Core.List.{List}
+use mathlib.Core.List.{List, ◌++◌}
 use lib.ListN.{length, take, length-map, length-take}
 use lib.Seq.{length-take-le}
 use Rattle.paper.specs.declared.refusals.Fault.TheVariants.{OddBytes}
@@ -16,11 +16,10 @@ use Rattle.strategy.specs.Verdict.{refused_at}
 use Rattle.strategy.specs.Judge.{left_by, order_in, judged_of}
 use Rattle.input.specs.Bytes.{words_of, are_odd, judged_bytes, order_left_of, JudgedBytes}
 use Rattle.answers.specs.Requests.{reported}
-use Rattle.answers.specs.declared.numbered.Basis.{Basis}
-use Rattle.answers.specs.Inside.Judged.{AcceptedAs, Ordered, BasedExactly}
+use Rattle.answers.specs.Inside.Judged.{AcceptedAs, Ordered}
 use Rattle.answers.proofs.Accepted.{is-understood, few-transitions, few-chosen, reported-length, order-in-front, front-as-long}
-use Rattle.answers.proofs.Keeping.{is-based}
-use Rattle.lister.specs.Inside.Steps.{ListableIf, BasedIf, longest, Prepared}
+use Rattle.lister.specs.Listing.{first_of, transitions_of, lines_below, listing_of}
+use Rattle.lister.specs.Inside.Steps.{longest}
 use Rattle.std.specs.Prelude.{Result, Ok, Err}
 
 -- what the judgement of bytes leaves
@@ -39,14 +38,19 @@ module _ {bytes order₀ order : List ℕ} {r : Result Accepted Refusal} (j : Ju
   unfolding order_left_of
   stands a e = j.left_so ∙ ap (λ r. left_by r (order_in (words_of bytes)) order₀) e
 
-  pub prepared : {words : List ℕ} → words ≡ words_of bytes → Prepared bytes words r order
-  prepared are = record {
-    answered = j.answered;
-    words_are = are;
-    ordered = λ a e.
+  -- of the words of the bytes
+  module _ {words : List ℕ} (are : words ≡ words_of bytes) where
+    pub so-judged : {a : Accepted} → r ≡ Ok a → AcceptedAs words a
+    so-judged {a} e = rw are (accepted-words a (sym j.answered ∙ e))
+
+    pub so-ordered : {a : Accepted} → r ≡ Ok a → Ordered words a order
+    so-ordered {a} e =
         let accepts = sym j.answered ∙ e in
-        rw are (order-in-front (words_of bytes) order₀ order a (accepted-words a accepts) (stands a accepts));
-  }
+        rw are (order-in-front (words_of bytes) order₀ order a (accepted-words a accepts) (stands a accepts))
+
+    pub listing-so : {i : Result Accepted Refusal} → r ≡ i → first_of words i ++ lines_below words i (transitions_of i) ≡ listing_of bytes
+    listing-so {i} e =
+        subst (λ k. first_of words k ++ lines_below words k (transitions_of k) ≡ listing_of bytes) (sym j.answered ∙ e) (rw are refl)
 
   pub order-long : length order₀ ≡ slots → length order ≡ slots
   unfolding order_left_of
@@ -76,17 +80,6 @@ module _ {words order : List ℕ} {a : Accepted} (o : Ordered words a order) whe
       let m = length-take-le a.layout.chosen order order-there in
       let few = few-chosen words a o.accepted in
       omega arith
-
--- the lines of its transitions too, by what they are worked out from
-module _ {words : List ℕ} {j : Result Accepted Refusal} {basis : Basis} where
-  pub accepted-basis : {a : Accepted} → j ≡ Ok a → BasedExactly words a.layout basis → BasedIf words j basis
-  accepted-basis {a} e based b q = let same : a ≡ b = cc in subst (λ x. BasedExactly words x.layout basis) same based
-
-  pub refused-basis : {x : Refusal} → j ≡ Err x → BasedIf words j basis
-  refused-basis e a q = let z : ◌≡◌ {A = ℕ} 0 1 = cc in absurd (omega arith)
-
-  pub listable-if : {bytes order : List ℕ} → Prepared bytes words j order → BasedIf words j basis → ListableIf words j basis.marks basis.own order
-  listable-if p b a e = record { ordered = p.ordered a e; based = is-based words a.layout (b a e) }
 
 pub line-room : (words : List ℕ) (a : Accepted) → AcceptedAs words a → (room : ℕ) → room ≡ 65536 → longest a.layout ≤ room
 line-room words a e room n = let u = is-understood words a e in omega (arith, u.at_most_variables, u.at_most_rows)

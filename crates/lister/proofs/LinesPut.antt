@@ -17,11 +17,10 @@ use Rattle.paper.specs.Transition.{is_kept}
 use Rattle.table.specs.declared.Layout.{Layout}
 use Rattle.written.specs.Tables.{formula_in}
 use Rattle.written.specs.Written.{labels_on}
-use Rattle.keys.specs.declared.Distinct.{Distinct}
 use Rattle.strategy.specs.declared.Accepted.{Accepted}
 use Rattle.strategy.specs.Judge.{proposal_in}
 use Rattle.answers.specs.Requests.{key_of}
-use Rattle.answers.specs.Inside.Judged.{AcceptedAs, Assigned}
+use Rattle.answers.specs.Inside.Judged.{AcceptedAs, Ordered, Assigned}
 use Rattle.answers.proofs.Accepted.{is-understood, few-transitions}
 use Rattle.answers.proofs.Keeping.{rows_fit, front-is, front-there, front_length, assigned-many, assigned-there, assigned-front}
 use Rattle.marks.specs.Marks.{positions_from, positions}
@@ -30,7 +29,7 @@ use Rattle.listing.specs.declared.Pen.{Pen}
 use Rattle.listing.specs.Inside.Placed.{Puts}
 use Rattle.listing.proofs.Placing.{puts-nothing, puts_then}
 use Rattle.lister.specs.Listing.{line_of, lines_from}
-use Rattle.lister.specs.Inside.Steps.{Listable, longest, fitting}
+use Rattle.lister.specs.Inside.Steps.{longest, fitting}
 
 -- the bytes of labels that pass a test, and their positions
 module _ (p : Label → Bool) where
@@ -124,13 +123,13 @@ module _ (words : List ℕ) (l : Layout) where
       no_room h = putting-stops (fits-no-more (length before.buf.now) after.at (k + count) (left - count) h)
 
 -- The line of transition k, from its bytes and its chosen labels.
-module _ {words : List ℕ} {a : Accepted} {marks : List ℕ} {own : Distinct} {order : List ℕ} (p : Listable words a marks own order) {k : ℕ}
-    (h : k < a.transitions) {kept₀ kept labels₀ labels : List ℕ} {chosen : ℕ} (q : Assigned words a.layout k kept₀ kept labels₀ labels chosen) where
+module _ {words : List ℕ} {a : Accepted} {order : List ℕ} (o : Ordered words a order) {k : ℕ} (h : k < a.transitions)
+    {kept₀ kept labels₀ labels : List ℕ} {chosen : ℕ} (q : Assigned words a.layout k kept₀ kept labels₀ labels chosen) where
   abbrev l : Layout
   l = a.layout
 
   abbrev e : AcceptedAs words a
-  e = p.ordered.accepted
+  e = o.accepted
 
   pub rows_there : l.rows ≤ length kept
   rows_there = (front-there words a e k h kept₀ kept q.bytes).0

@@ -19,4 +19,4 @@ listed-put-lines κs a pre x y v w p q =
     (n, λ i. (tt, (tt, (one-pen (rw n at p.puts) q.puts i, tt))))
 
 pub put-part : OneOutcome parts.put_part.Kinds.ps parts.put_part.Kinds.r parts.put_part.Reads.Pre parts.put_part.Reads.Post
-put-part κs a pre x y v w p q = (by-equation p.many q.many, λ i. (tt, (tt, (tt, (tt, (tt, (one-pen p.puts q.puts i, tt)))))))
+put-part κs a pre x y v w p q = (by-equation p.many q.many, λ i. (tt, (tt, (one-pen p.puts q.puts i, tt))))

@@ -8,14 +8,14 @@ use lib.ListN.{length, take}
 use Rattle.paper.specs.declared.Refusal.{Refusal}
 use Rattle.paper.specs.Refusals.{fault_number}
 use Rattle.strategy.specs.declared.Accepted.{Accepted}
-use Rattle.answers.specs.Inside.Judged.{Ordered}
+use Rattle.answers.specs.Inside.Judged.{AcceptedAs, Ordered}
 use Rattle.answers.proofs.Accepted.{few-transitions}
 use Rattle.listing.specs.Text.{refused_line}
 use Rattle.listing.specs.declared.Pen.{Pen}
 use Rattle.listing.specs.Inside.Placed.{Puts}
 use Rattle.lister.specs.Listing.{head_of}
 use Rattle.lister.specs.Inside.Steps.{pieces}
-use Rattle.lister.specs.Inside.Steps.{LinesPut, many_pieces, PartPut, AcceptedIf}
+use Rattle.lister.specs.Inside.Steps.{LinesPut, many_pieces, PartPut}
 use Rattle.lister.proofs.Asked.{line-room}
 use Rattle.lister.proofs.LinesPut.{fits-within, fits-some}
 use Rattle.std.specs.Prelude.{Result, Ok, Err}
@@ -47,6 +47,10 @@ module _ {words : List ℕ} {n : ℕ} {before after : Pen} where
               let one : suc k - 1 ≡ k = omega arith in
               let q = rw one at p in
               record { many = ap (λ (m : ℕ). suc k + m) q.many; puts = rw q.many at q.puts }
+
+-- what is judged to be accepted is
+abbrev pub AcceptedIf : List ℕ → Result Accepted Refusal → Type 0
+AcceptedIf words j = (a : Accepted) → j ≡ Ok a → AcceptedAs words a
 
 -- how many pieces a part has
 pub part-goes-on : (words : List ℕ) {n : ℕ} (j : Result Accepted Refusal) → AcceptedIf words j → (room : ℕ) → room ≡ 65536 → n < pieces j

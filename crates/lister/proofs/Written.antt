@@ -10,13 +10,15 @@ use lib.Seq.{length-take-le}
 use Rattle.answers.proofs.Accepted.{few-transitions}
 use Rattle.listing.specs.declared.Pen.{Pen}
 use Rattle.listing.specs.Inside.Placed.{Put}
+use Rattle.lister.specs.declared.lines.Listed.{Listed}
 use Rattle.lister.specs.declared.output.Written.{Written}
 use Rattle.lister.specs.Listing.{first_of, transitions_of, lines_below, listing_of}
 use Rattle.lister.specs.Inside.Steps.{pieces, pieces_below, part_of}
 use Rattle.lister.specs.Running.{NextPart, HandedOver, Reached}
-use Rattle.lister.specs.Inside.Steps.{AcceptedIf, PartPut, Prepared}
+use Rattle.lister.specs.Inside.Steps.{PartPut}
+use Rattle.lister.specs.Inside.Whole.{words_in, judged_in, listing_in}
 use Rattle.lister.proofs.Pieces.{put_front, stands-between, part-follows, all-pieces, behind}
-use Rattle.lister.proofs.PartsPut.{part-goes-on}
+use Rattle.lister.proofs.PartsPut.{AcceptedIf, part-goes-on}
 use Rattle.std.specs.Prelude.{Result, Ok, Err}
 use Rattle.paper.specs.declared.Refusal.{Refusal}
 use Rattle.strategy.specs.declared.Accepted.{Accepted}
@@ -32,19 +34,28 @@ pub writing_begins : {words : List ℕ} {j : Result Accepted Refusal} {text : Li
     → Writing words j text 0 w
 writing_begins (at, whole) room = record { so_far = omega arith; taken = whole; at_is = at; low = omega arith; room = room }
 
-module _ {bytes words order : List ℕ} {j : Result Accepted Refusal} (p : Prepared bytes words j order) where
-  pub few-pieces : pieces j ≤ 65536
-  few-pieces = go j refl
-    where
-      go : (i : Result Accepted Refusal) → j ≡ i → pieces i ≤ 65536
-      go (Err x) e = omega arith
-      go (Ok a) e = let few = few-transitions words a (p.ordered a e).accepted in omega arith
+-- what is judged to be accepted is, and the listing is that of the bytes
+pub record Prepared (bytes words : List ℕ) (j : Result Accepted Refusal) : Type 0 where
+  pub accepted : AcceptedIf words j
+  pub whole : first_of words j ++ lines_below words j (transitions_of j) ≡ listing_of bytes
 
-  pub are-accepted : AcceptedIf words j
-  are-accepted a e = (p.ordered a e).accepted
+pub prepared : {bytes : List ℕ} (x : Result Listed Refusal) → listing_in x ≡ listing_of bytes → Prepared bytes (words_in x) (judged_in x)
+prepared x e = record { accepted = go x; whole = e }
+  where
+    go : (x : Result Listed Refusal) → AcceptedIf (words_in x) (judged_in x)
+    go (Ok y) a q = y.basis.now.table.judged_so ∙ q
+    go (Err r) a q = let z : ◌≡◌ {A = ℕ} 0 1 = cc in absurd (omega arith)
+
+module _ {bytes words : List ℕ} {j : Result Accepted Refusal} (p : Prepared bytes words j) where
+  few-pieces : pieces j ≤ 65536
+  few-pieces = go j p.accepted
+    where
+      go : (i : Result Accepted Refusal) → AcceptedIf words i → pieces i ≤ 65536
+      go (Err r) all = omega arith
+      go (Ok a) all = let few = few-transitions words a (all a refl) in omega arith
 
   listing-is : listing_of bytes ≡ first_of words j ++ lines_below words j (transitions_of j)
-  listing-is = rw (p.words_are, p.answered)
+  listing-is = sym p.whole
 
   module _ {before after : Pen} {n next : ℕ} {w : Written} (q : PartPut words j n before after next) (none : before.at ≡ 0)
       (i : Writing words j before.buf.now n w) (h : n < pieces j) where
@@ -67,7 +78,7 @@ module _ {bytes words order : List ℕ} {j : Result Accepted Refusal} (p : Prepa
 
     pub goes_on : (n < next) × (next ≤ pieces j)
     goes_on =
-        let (some, within) = part-goes-on words {n = n} j are-accepted (length before.buf.now) i.room h in
+        let (some, within) = part-goes-on words {n = n} j p.accepted (length before.buf.now) i.room h in
         (omega (arith, q.many), omega (arith, q.many))
 
     pub next-part : {text : List ℕ} → text ≡ after.buf.now → NextPart (listing_of bytes) w (take after.at text)

@@ -1,7 +1,6 @@
 // The lister: reads a table on standard input, and prints its listing or one line of a refusal (document 01, "A listing, whole").
 #![tactic(auto)]
 
-mod basis; // what the lines of the transitions are worked out from
 mod lines; // the lines of the transitions, put into a lent buffer
 mod output; // the one call that writes
 mod parts; // the parts of a listing, put into a lent buffer one after another
@@ -13,8 +12,10 @@ ghost use Rattle.lister.specs.Listing.{listing_of};
 ghost use Rattle.lister.specs.Running.{Reached, RanSo};
 ghost use Rattle.paper.specs.Limits.{most_bytes};
 
+use answers::judged::AcceptedTable;
 use input::judging::judge_bytes;
 use input::words::fill_words;
+use lines::Listed;
 use output::Written;
 use paper::limits::{MOST_BYTES, SLOTS};
 use reading::{Read, read_input};
@@ -33,11 +34,23 @@ fn list(rt: &impl Print, bytes: &[u8]) -> Written
     requires { length bytes.now ≤ most_bytes }
     ensures { Reached (listing_of bytes.now) result }
 {
-    let mut words = [0u16; MOST_BYTES / 2];
-    let count = fill_words(bytes, &mut words);
+    let mut buffer = [0u16; MOST_BYTES / 2];
+    let count = fill_words(bytes, &mut buffer);
+    let words = &buffer[..count];
     let mut order = [0u16; SLOTS];
-    let judged = judge_bytes(bytes, &words[..count], &mut order);
-    write_listing(rt, bytes, &words[..count], judged, &order)
+    let judged = judge_bytes(bytes, words, &mut order);
+    match judged {
+        Ok(accepted) => {
+            let table = AcceptedTable { words, accepted };
+            let basis = table.basis();
+            let listed = Listed {
+                basis: &basis,
+                order: &order,
+            };
+            write_listing(rt, bytes, Ok(listed))
+        }
+        Err(r) => write_listing(rt, bytes, Err(r)),
+    }
 }
 
 // Reads a table into `bytes`, and lists it.

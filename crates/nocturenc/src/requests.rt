@@ -4,7 +4,7 @@ ghost use Rattle.filling.specs.Filling.{Fills};
 ghost use Rattle.answers.specs.Requests.{judge_of, order_of, transition_of, assignments_of};
 
 use answers::Counts;
-use answers::judged::{assignments_of, transition_of};
+use answers::judged::AcceptedTable;
 use filling::{Length, fill};
 use paper::Refusal;
 use paper::limits::SLOTS;
@@ -33,7 +33,8 @@ pub fn transition(words: &[u16], k: usize, out: &mut [u8]) -> Result<Length, Ref
     ensures { Fills (transition_of words.now k (length out.old)) out.old out.new result }
 {
     let accepted = strategy::judge(words)?;
-    transition_of(words, accepted, k, out)
+    let table = AcceptedTable { words, accepted };
+    table.transition_of(k, out)
 }
 
 // The chosen labels of transition k in reported order, in the first V words of `out`.
@@ -42,5 +43,6 @@ pub fn assignments(words: &[u16], k: usize, out: &mut [u16]) -> Result<Length, R
 {
     let mut reported = [0u16; SLOTS];
     let accepted = judge_into(words, &mut reported)?;
-    assignments_of(words, accepted, &reported, k, out)
+    let table = AcceptedTable { words, accepted };
+    table.assignments_of(&reported, k, out)
 }

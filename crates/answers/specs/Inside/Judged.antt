@@ -10,7 +10,6 @@ use Rattle.keys.specs.Inside.Keys.{keys_at}
 use Rattle.strategy.specs.declared.Accepted.{Accepted}
 use Rattle.strategy.specs.Judge.{judged_of, order_in, proposal_in}
 use Rattle.answers.specs.declared.Counts.{Counts}
-use Rattle.answers.specs.declared.numbered.Basis.{Basis}
 use Rattle.answers.specs.Requests.{reported, key_of, kept_marks, assigned_of}
 use Rattle.filling.specs.declared.Length.{Length}
 use Rattle.paper.specs.declared.Refusal.{Refusal}
@@ -48,16 +47,9 @@ pub record Based (words : List ℕ) (l : Layout) (marks : List ℕ) (own : Disti
   pub marked : Marked (proposal_in words l) marks
   pub own_are : own ≡ keys_at (rows_in words l) marks most_depth 0
 
-pub record BasedExactly (words : List ℕ) (l : Layout) (basis : Basis) : Type 0 where
-  pub marked : MarkedExactly (proposal_in words l) basis.marks
-  pub own_are : basis.own ≡ keys_at (rows_in words l) basis.marks most_depth 0
-
--- transition k is there, with what it is worked out from, and a byte for each of 4,096 labels
-pub record Asked (words : List ℕ) (a : Accepted) (marks : List ℕ) (own : Distinct) (k : ℕ) (kept : List ℕ) : Type 0 where
-  pub accepted : AcceptedAs words a
-  pub based : Based words a.layout marks own
-  pub there : k < a.transitions
-  pub room : length kept ≡ most_rows
+pub record BasedExactly (words : List ℕ) (l : Layout) (marks : List ℕ) (own : Distinct) : Type 0 where
+  pub marked : MarkedExactly (proposal_in words l) marks
+  pub own_are : own ≡ keys_at (rows_in words l) marks most_depth 0
 
 -- the bytes of transition k and its chosen labels in reported order stand in front of what was there, and how many these are
 pub record Assigned (words : List ℕ) (l : Layout) (k : ℕ) (kept kept' labels labels' : List ℕ) (chosen : ℕ) : Type 0 where

@@ -1,12 +1,8 @@
--- What the lister's functions ask for and leave: accepted words with their order, and the parts of a listing.
+-- What the lister's functions ask for and leave: a pen, lines, and the parts of a listing.
 use Rattle.std.specs.Prelude.{ℕ, zero, suc, ◌+◌, ◌-◌, ◌*◌, cond, List, [], ◌++◌, ◌≡◌, ltb, length, Result, Ok, Err}
 use Rattle.paper.specs.Limits.{most_bytes}
 use Rattle.table.specs.declared.Layout.{Layout}
-use Rattle.keys.specs.declared.Distinct.{Distinct}
 use Rattle.strategy.specs.declared.Accepted.{Accepted}
-use Rattle.input.specs.Bytes.{words_of, judged_bytes}
-use Rattle.answers.specs.declared.numbered.Basis.{Basis}
-use Rattle.answers.specs.Inside.Judged.{AcceptedAs, Ordered, Based, BasedExactly}
 use Rattle.listing.specs.declared.Pen.{Pen}
 use Rattle.listing.specs.Inside.Placed.{Puts}
 use Rattle.lister.specs.Listing.{line_of, lines_from, first_of, transitions_of, lines_below}
@@ -15,21 +11,6 @@ use Rattle.paper.specs.declared.Refusal.{Refusal}
 -- a pen that put nothing yet into a buffer as long as the longest input
 abbrev pub Fresh : Pen → Type 0
 Fresh pen = (pen.at ≡ 0) × (length pen.buf.now ≡ most_bytes)
-
--- accepted words, with their reported order and what the line of every transition is worked out from
-pub record Listable (words : List ℕ) (a : Accepted) (marks : List ℕ) (own : Distinct) (order : List ℕ) : Type 0 where
-  pub ordered : Ordered words a order
-  pub based : Based words a.layout marks own
-
--- of accepted words it is so
-abbrev pub AcceptedIf : List ℕ → Result Accepted Refusal → Type 0
-AcceptedIf words j = (a : Accepted) → j ≡ Ok a → AcceptedAs words a
-
-abbrev pub ListableIf : List ℕ → Result Accepted Refusal → List ℕ → Distinct → List ℕ → Type 0
-ListableIf words j marks own order = (a : Accepted) → j ≡ Ok a → Listable words a marks own order
-
-abbrev pub BasedIf : List ℕ → Result Accepted Refusal → Basis → Type 0
-BasedIf words j basis = (a : Accepted) → j ≡ Ok a → BasedExactly words a.layout basis
 
 -- no transition's line is longer
 abbrev pub longest : Layout → ℕ
@@ -73,13 +54,3 @@ part_of words (Ok a) room (suc k) = lines_from words a.layout k (many_lines word
 pub record PartPut (words : List ℕ) (j : Result Accepted Refusal) (n : ℕ) (before after : Pen) (next : ℕ) : Type 0 where
   pub many : next ≡ n + many_pieces words j (length before.buf.now) n
   pub puts : Puts before (part_of words j (length before.buf.now) n) after
-
--- of accepted words the reported order stands in front
-abbrev pub OrderedIf : List ℕ → Result Accepted Refusal → List ℕ → Type 0
-OrderedIf words j order = (a : Accepted) → j ≡ Ok a → Ordered words a order
-
--- the words and the judgement of bytes, with the reported order
-pub record Prepared (bytes words : List ℕ) (j : Result Accepted Refusal) (order : List ℕ) : Type 0 where
-  pub answered : j ≡ judged_bytes bytes
-  pub words_are : words ≡ words_of bytes
-  pub ordered : OrderedIf words j order

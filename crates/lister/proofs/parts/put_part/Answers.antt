@@ -2,14 +2,12 @@
 use Prim.Native.Nat.{◌<◌}
 use mathlib.Core.Path.{subst}
 use Rattle.lister.specs.Inside.Steps.{pieces}
+use Rattle.lister.specs.Inside.Whole.{judged_in}
 use Rattle.lister.proofs.PartsPut.{refused-part}
 use Rattle.lister.proofs.parts.put_part.Goals as goal
 
-pub invariant_of-listed : goal.invariant_of-listed
-invariant_of-listed c = record { ready = c.requires.0 _ c.in-Ok.is }
-
 pub put_accepted_part-requires : goal.put_accepted_part-requires
-put_accepted_part-requires c = (subst (λ j. c.args.next < pieces j) c.in-Ok.is c.requires.1, c.requires.2)
+put_accepted_part-requires c = (subst (λ x. c.args.next < pieces (judged_in x)) c.in-Ok.is c.requires.0, c.requires.1)
 
 pub returns-in-Ok : goal.returns-in-Ok
 returns-in-Ok c = rw c.in-Ok.is c.put_accepted_part.ensures
@@ -17,4 +15,4 @@ returns-in-Ok c = rw c.in-Ok.is c.put_accepted_part.ensures
 pub returns-in-Err : goal.returns-in-Err
 returns-in-Err c =
     let e = c.in-Err.is in
-    rw e (refused-part _ (subst (λ j. c.args.next < pieces j) e c.requires.1) (rw c.from.ensures at c.refused.ensures.put))
+    rw e (refused-part _ (subst (λ x. c.args.next < pieces (judged_in x)) e c.requires.0) (rw c.from.ensures at c.refused.ensures.put))

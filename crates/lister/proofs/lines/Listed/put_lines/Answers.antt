@@ -7,16 +7,16 @@ use Rattle.lister.proofs.LinesPut.{putting-begins, putting-goes-on, none_left, n
 use Rattle.lister.proofs.lines.Listed.put_lines.Goals as goal
 
 pub overflow_mul-most : goal.overflow_mul-most
-overflow_mul-most c = let few = line-room _ _ c.args.self.now.ready.ordered.accepted 65536 refl in omega arith
+overflow_mul-most c = let few = line-room _ _ c.args.self.now.ordered.accepted 65536 refl in omega arith
 
 pub overflow_add-most : goal.overflow_add-most
-overflow_add-most c = let few = line-room _ _ c.args.self.now.ready.ordered.accepted 65536 refl in omega arith
+overflow_add-most c = let few = line-room _ _ c.args.self.now.ordered.accepted 65536 refl in omega arith
 
 pub overflow_mul-most-2 : goal.overflow_mul-most-2
-overflow_mul-most-2 c = let few = line-room _ _ c.args.self.now.ready.ordered.accepted 65536 refl in omega arith
+overflow_mul-most-2 c = let few = line-room _ _ c.args.self.now.ordered.accepted 65536 refl in omega arith
 
 pub overflow_add-most-2 : goal.overflow_add-most-2
-overflow_add-most-2 c = let few = line-room _ _ c.args.self.now.ready.ordered.accepted 65536 refl in omega arith
+overflow_add-most-2 c = let few = line-room _ _ c.args.self.now.ordered.accepted 65536 refl in omega arith
 
 pub loop-count-init : goal.loop-count-init
 loop-count-init c = putting-begins _ _ c.requires.1.0

@@ -4,4 +4,4 @@ use Rattle.lister.proofs.LinesPut.{Putting}
 use Rattle.lister.proofs.lines.Listed.put_lines.Given as goal
 
 abbrev pub invariant-loop-count : goal.invariant-loop-count
-invariant-loop-count l = Putting l.self.words.now l.self.accepted.layout l.k l.left l.initial.pen l.pen l.count
+invariant-loop-count l = Putting l.self.basis.now.table.words.now l.self.basis.now.table.accepted.layout l.k l.left l.initial.pen l.pen l.count

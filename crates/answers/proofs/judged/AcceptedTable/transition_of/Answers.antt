@@ -5,17 +5,17 @@ use Rattle.std.specs.Prelude.{Err}
 use Rattle.answers.proofs.Accepted.{few-transitions}
 use Rattle.answers.proofs.Keeping.{front-is, front-there, front_length}
 use Rattle.answers.proofs.Answers.{absent, not-whole, whole}
-use Rattle.answers.proofs.judged.transition_of.Goals as goal
+use Rattle.answers.proofs.judged.AcceptedTable.transition_of.Goals as goal
 
 pub refusal_at-requires : goal.refusal_at-requires
-refusal_at-requires c = let n = few-transitions _ _ c.requires in omega arith
+refusal_at-requires c = let n = few-transitions _ _ c.args.self.now.judged_so in omega arith
 
 pub returns-then-count-k : goal.returns-then-count-k
 returns-then-count-k c = absent _ _ _ _ _ _ c.if-count-k.true (ap Err c.refusal_at.ensures)
 
 pub refusal_at-requires-then-chosen-l : goal.refusal_at-requires-then-chosen-l
 refusal_at-requires-then-chosen-l c =
-    let n = few-transitions _ _ c.requires in
+    let n = few-transitions _ _ c.args.self.now.judged_so in
     omega (arith, c.if-count-k.false)
 
 pub returns-then-chosen-l : goal.returns-then-chosen-l
@@ -23,18 +23,18 @@ returns-then-chosen-l c =
     not-whole _ _ _ _ _ _ c.if-count-k.false _ c.keep-chosen.ensures.many c.if-chosen-l.true (ap Err c.refusal_at-then-chosen-l.ensures)
 
 pub slice_bounds-kept-end : goal.slice_bounds-kept-end
-slice_bounds-kept-end c = (front-there _ _ c.requires _ c.if-count-k.false _ _ c.keep-chosen.ensures.bytes).0
+slice_bounds-kept-end c = (front-there _ _ c.args.self.now.judged_so _ c.if-count-k.false _ _ c.keep-chosen.ensures.bytes).0
 
 pub slice_bounds-fill-end : goal.slice_bounds-fill-end
-slice_bounds-fill-end c = front_length _ _ c.requires _ c.if-count-k.false _ _ c.keep-chosen.ensures.bytes
+slice_bounds-fill-end c = front_length _ _ c.args.self.now.judged_so _ c.if-count-k.false _ _ c.keep-chosen.ensures.bytes
 
 pub fill-requires : goal.fill-requires
 fill-requires c =
-    let n = front_length _ _ c.requires _ c.if-count-k.false _ _ c.keep-chosen.ensures.bytes in
-    let few = (front-there _ _ c.requires _ c.if-count-k.false _ _ c.keep-chosen.ensures.bytes).1 in
+    let n = front_length _ _ c.args.self.now.judged_so _ c.if-count-k.false _ _ c.keep-chosen.ensures.bytes in
+    let few = (front-there _ _ c.args.self.now.judged_so _ c.if-count-k.false _ _ c.keep-chosen.ensures.bytes).1 in
     omega arith
 
 pub returns : goal.returns
 returns c =
-    let front = front-is _ _ c.requires _ c.if-count-k.false _ _ c.keep-chosen.ensures.bytes in
+    let front = front-is _ _ c.args.self.now.judged_so _ c.if-count-k.false _ _ c.keep-chosen.ensures.bytes in
     whole _ _ _ _ _ _ c.if-count-k.false _ c.keep-chosen.ensures.many c.if-chosen-l.false (rw front at c.fill.ensures)
