@@ -7,9 +7,10 @@ ghost use Rattle.answers.specs.Requests.{kept_marks};
 ghost use Rattle.answers.specs.Inside.Judged.{AcceptedAs, Ordered, BasedExactly, Asked, Assigned};
 
 use keys::{Distinct, keys_of};
-use marks::marks_of;
+use marks::{MarkedFormula, marks_of};
 use paper::Label;
 use paper::limits::{MOST_DEPTH, MOST_ROWS};
+use rows::walk::Formula;
 use strategy::Accepted;
 use transitions::assigned::fill_assigned;
 use transitions::kept::mark_kept;
@@ -31,7 +32,15 @@ pub fn basis_of(words: &[u16], a: Accepted) -> Basis
     let rows = l.rows_at;
     let chosen = l.chosen_at;
     let marks = marks_of(&words[chosen..]);
-    let own = keys_of(&words[rows..], &marks, l.rows as u16, Label(0), MOST_DEPTH);
+    let formula = Formula {
+        rows: &words[rows..],
+        n: l.rows as u16,
+    };
+    let f = MarkedFormula {
+        formula,
+        marks: &marks,
+    };
+    let own = keys_of(&f, Label(0), MOST_DEPTH);
     Basis { marks, own }
 }
 
@@ -49,7 +58,12 @@ pub fn put_kept(
 {
     let l = a.layout;
     let rows = l.rows_at;
-    mark_kept(&words[rows..], marks, l.rows as u16, own, k as u64, kept);
+    let formula = Formula {
+        rows: &words[rows..],
+        n: l.rows as u16,
+    };
+    let f = MarkedFormula { formula, marks };
+    mark_kept(&f, own, k as u64, kept);
 }
 
 // Puts the bytes of transition k in front of `kept`, and its chosen labels in the order that stands in front of `order` in front of
