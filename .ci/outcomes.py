@@ -35,7 +35,7 @@ GENERIC = {
         " → {said}.OneOutcome ({path}.Kinds.ps T L) ({path}.Kinds.r T L) (λ κs a. {path}.Reads.Pre T L F d e f g κs a"
         " × Rattle.entries.specs.Inside.Asked.OneAnswer (({contract}.F-Fn.words T F).post a.1.0) a.0) ({path}.Reads.Post T L F d e f g)"
     ),
-    ("OneOutcome", "rows::walk::value_of"): (
+    ("OneOutcome", "rows::walk::Formula::value_of"): (
         "(T U : denote.RattleType.RattleType) (t : denote.Param.Laws.Laws T) (u : denote.Param.Laws.Laws U)"
         " (F : Rattle.rows.specs.declared.walk.Folding.Ghosts T.Denot U.Denot) (d : mir.Syntax.Dict)"
         " → {said}.OneOutcome ({path}.Kinds.ps T U t u) ({path}.Kinds.r T U t u) ({path}.Reads.Pre T U t u F d) ({path}.Reads.Post T U t u F d)"

@@ -9,10 +9,11 @@ ghost use Rattle.answers.specs.Inside.Judged.{AcceptedAs, Ordered, BasedExactly,
 use crate::numbered::Basis;
 use filling::{Length, fill};
 use keys::keys_of;
-use marks::marks_of;
+use marks::{MarkedFormula, marks_of};
 use paper::limits::{MOST_DEPTH, MOST_ROWS, SLOTS};
 use paper::refusals::{Fault, refusal_at};
 use paper::{Label, Refusal};
+use rows::walk::Formula;
 use strategy::Accepted;
 use transitions::assigned::count_kept;
 
@@ -35,7 +36,15 @@ impl<'a> AcceptedTable<'a> {
         let rows = l.rows_at;
         let chosen = l.chosen_at;
         let marks = marks_of(&words[chosen..]);
-        let own = keys_of(&words[rows..], &marks, l.rows as u16, Label(0), MOST_DEPTH);
+        let formula = Formula {
+            rows: &words[rows..],
+            n: l.rows as u16,
+        };
+        let f = MarkedFormula {
+            formula,
+            marks: &marks,
+        };
+        let own = keys_of(&f, Label(0), MOST_DEPTH);
         Basis {
             table: *self,
             marks,

@@ -8,7 +8,9 @@ ghost use Rattle.answers.specs.Inside.Judged.{Ordered, Based, Assigned};
 
 use crate::judged::AcceptedTable;
 use keys::Distinct;
+use marks::MarkedFormula;
 use paper::limits::MOST_ROWS;
+use rows::walk::Formula;
 use transitions::assigned::fill_assigned;
 use transitions::kept::mark_kept;
 
@@ -31,14 +33,15 @@ impl Basis<'_> {
         let words = self.table.words;
         let l = self.table.accepted.layout;
         let rows = l.rows_at;
-        mark_kept(
-            &words[rows..],
-            &self.marks,
-            l.rows as u16,
-            self.own,
-            k as u64,
-            kept,
-        );
+        let formula = Formula {
+            rows: &words[rows..],
+            n: l.rows as u16,
+        };
+        let f = MarkedFormula {
+            formula,
+            marks: &self.marks,
+        };
+        mark_kept(&f, self.own, k as u64, kept);
     }
 
     // Puts the bytes of transition k in front of `kept`, and its chosen labels in the order that stands in front of `order` in front of

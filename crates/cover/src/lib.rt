@@ -2,16 +2,15 @@
 // and 12.
 #![tactic(auto)]
 
-ghost use Rattle.std.specs.Prelude.{◌≡◌, true, false, ◌≤◌};
+ghost use Rattle.std.specs.Prelude.{◌≡◌, true, false, ◌≤◌, ◌<◌};
 ghost use Rattle.entries.specs.First.{first};
-ghost use Rattle.rows.specs.Inside.Walk.{Walkable};
 ghost use Rattle.cover.specs.Inside.Masks.{leaf_masks, join_masks, masks_fold, masks_in, bit_at, refusal_of, covering_of};
 
-use marks::is_marked;
+use marks::{MarkedFormula, is_marked};
 use paper::limits::{MOST_DEPTH, MOST_ROWS};
 use paper::refusals::{Fault, refusal_at};
 use paper::{Label, Refusal, Variable};
-use rows::walk::{Folding, value_of};
+use rows::walk::Folding;
 
 // Over the branches of a formula that has some, for 64 variables at a time: bit b of `always` if each branch has a chosen
 // candidate of variable 64 * block + b, of `ever` if some has one, of `twice` if some has two or more.
@@ -122,15 +121,19 @@ impl Folding for Block<'_> {
 }
 
 // What there is of the variables of a block. Where there is no branch, each has all.
-fn masks_of(rows: &[u16], marks: &[u8; MOST_ROWS], n: u16, block: u16) -> Masks
-    requires { Walkable rows.now n 0 }
-    ensures { result ≡ masks_in rows.now marks.now block }
+fn masks_of(f: &MarkedFormula, block: u16) -> Masks
+    requires { 0 < f.now.formula.n }
+    ensures { result ≡ masks_in f.now.formula.rows.now f.now.marks.now block }
 {
-    value_of(&Block { marks, block }, rows, n, Label(0), MOST_DEPTH).unwrap_or(Masks {
-        always: u64::MAX,
-        ever: 0,
-        twice: 0,
-    })
+    let marks = f.marks;
+    let walk = Block { marks, block };
+    f.formula
+        .value_of(&walk, Label(0), MOST_DEPTH)
+        .unwrap_or(Masks {
+            always: u64::MAX,
+            ever: 0,
+            twice: 0,
+        })
 }
 
 // The lowest bit set of the m lowest, or m.
@@ -142,20 +145,15 @@ fn lowest_bit(w: u64, m: u16) -> u16
 }
 
 // The lowest variable with no chosen label on some branch, else the lowest with two or more on some branch.
-pub fn covering_of(
-    rows: &[u16],
-    marks: &[u8; MOST_ROWS],
-    n: u16,
-    variables: u16,
-) -> Result<(), Uncovered>
-    requires { Walkable rows.now n 0 }
-    ensures { result ≡ covering_of rows.now marks.now variables }
+pub fn covering_of(f: &MarkedFormula, variables: u16) -> Result<(), Uncovered>
+    requires { 0 < f.now.formula.n }
+    ensures { result ≡ covering_of f.now.formula.rows.now f.now.marks.now variables }
 {
     let mut two: u16 = 0;
     for block in 0..variables.div_ceil(64) {
         let v = 64 * block;
         let m = (variables - v).min(64);
-        let w = masks_of(rows, marks, n, block);
+        let w = masks_of(f, block);
         let one = lowest_bit(!w.always, m);
         if one < m {
             let missed = v + one;

@@ -2,15 +2,14 @@
 #![tactic(auto)]
 
 ghost use Rattle.std.specs.Prelude.{◌≡◌, true, false, ◌≤◌, ◌<◌, min};
-ghost use Rattle.rows.specs.Inside.Walk.{Walkable};
 ghost use Rattle.marks.specs.Marks.{is_marked};
 ghost use Rattle.keys.specs.Inside.Keys.{limit, total, leaf_keys, join_keys, keys_fold, keys_at};
 ghost use Rattle.paper.specs.Limits.{most_rows};
 
-use marks::is_marked;
+use marks::{MarkedFormula, is_marked};
 use paper::limits::{MOST_ROWS, MOST_TRANSITIONS};
 use paper::{Label, Variable};
-use rows::walk::{Folding, value_of};
+use rows::walk::Folding;
 
 // How many distinct keys are not empty, at most 65,536, and whether the empty key is one.
 #[derive(Clone, Copy)]
@@ -101,9 +100,9 @@ impl Folding for Keys<'_> {
 }
 
 // The keys of the formula at a row, `left` levels deep at most.
-pub fn keys_of(rows: &[u16], marks: &[u8; MOST_ROWS], n: u16, at: Label, left: u16) -> Distinct
-    requires { Walkable rows.now n at.0 }
-    ensures { (result ≡ keys_at rows.now marks.now left at.0) × (result.more ≤ limit) }
+pub fn keys_of(f: &MarkedFormula, at: Label, left: u16) -> Distinct
+    requires { at.0 < f.now.formula.n }
+    ensures { (result ≡ keys_at f.now.formula.rows.now f.now.marks.now left at.0) × (result.more ≤ limit) }
 {
-    value_of(&Keys { marks }, rows, n, at, left)
+    f.formula.value_of(&Keys { marks: f.marks }, at, left)
 }

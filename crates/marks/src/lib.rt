@@ -9,6 +9,14 @@ ghost use Rattle.paper.specs.Limits.{most_rows};
 
 use paper::Label;
 use paper::limits::MOST_ROWS;
+use rows::walk::Formula;
+
+// A formula with its chosen labels marked.
+#[derive(Clone, Copy)]
+pub struct MarkedFormula<'r, 'm> {
+    pub formula: Formula<'r>,
+    pub marks: &'m [u8; MOST_ROWS],
+}
 
 // Whether a label is marked.
 #[tactic(auto, unfolding(crate::specs::Marks::is_marked))]

@@ -43,6 +43,7 @@ pub first_of : OneOutcome walk.first_of.Kinds.ps walk.first_of.Kinds.r walk.firs
 first_of κs a pre x y v w p q = (by-equation p q, refl)
 
 -- of a walk, whatever it works out
-pub value-of : (T U : RattleType) (t : Laws T) (u : Laws U) (F : Ghosts T.Denot U.Denot) (d : Dict)
-    → OneOutcome (walk.value_of.Kinds.ps T U t u) (walk.value_of.Kinds.r T U t u) (walk.value_of.Reads.Pre T U t u F d) (walk.value_of.Reads.Post T U t u F d)
-value-of T U t u F d κs a pre x y v w p q = (by-equation p q, refl)
+pub formula-value_of : (T U : RattleType) (t : Laws T) (u : Laws U) (F : Ghosts T.Denot U.Denot) (d : Dict)
+    → OneOutcome (walk.Formula.value_of.Kinds.ps T U t u) (walk.Formula.value_of.Kinds.r T U t u) (walk.Formula.value_of.Reads.Pre T U t u F d)
+    (walk.Formula.value_of.Reads.Post T U t u F d)
+formula-value_of T U t u F d κs a pre x y v w p q = (by-equation p q, refl)

@@ -1,3 +1,4 @@
 pub mod Tree
 pub mod Walk
+pub mod OneProof
 pub mod Looks

@@ -2,12 +2,21 @@
 ghost use Rattle.std.specs.Prelude.{◌≡◌, ◌+◌, ◌*◌, ◌≤◌, ◌<◌, length};
 ghost use Rattle.paper.specs.Formula.{ℓ};
 ghost use Rattle.paper.specs.Inside.Structure.Fold.{Fold};
-ghost use Rattle.rows.specs.Inside.Walk.{expressions_at, first_at, is_conjunction, Walkable, value_at};
+ghost use Rattle.rows.specs.Inside.Walk.{expressions_at, first_at, is_conjunction, Shaped, value_at};
+ghost use Rattle.rows.specs.Inside.OneProof.{Shaped-prop};
 ghost use Rattle.paper.specs.Limits.{most_rows};
 
 use crate::form::{Form, form_of};
 use crate::{arg_of, end_of};
 use paper::{Label, Variable};
+
+// A formula as rows write it: the rows, which a walk can go over, and how many they are.
+#[derive(Clone, Copy)]
+pub struct Formula<'a> {
+    pub rows: &'a [u16],
+    pub n: u16,
+    pub ghost shaped: { Shaped rows.now n } by { Shaped-prop rows.now n },
+}
 
 // What a walk works out of a formula: a value for each leaf, and how the values of a join's children are joined from a unit on.
 pub trait Folding {
@@ -39,27 +48,30 @@ fn is_conjunction(form: Form) -> bool
     matches!(form, Form::Conjunction)
 }
 
-// The value of the formula at a row, `left` levels deep at most.
-pub fn value_of<W: Folding>(walk: &W, rows: &[u16], n: u16, at: Label, left: u16) -> W::Value
-    requires { Walkable rows.now n at.0 }
-    ensures { result ≡ value_at (W.fold walk.now) rows.now left at.0 }
-{
-    if left == 0 {
-        return walk.at_leaf(at);
-    }
-    let form = form_of(rows, at);
-    match form {
-        Form::False | Form::Star | Form::Unknown => walk.at_leaf(at),
-        Form::Candidate => walk.at_candidate(at, Variable(arg_of(rows, at))),
-        Form::Conjunction | Form::Disjunction | Form::Exists | Form::If => {
-            let conj = is_conjunction(form);
-            let mut acc = walk.unit(conj);
-            let mut k = first_of(rows, at);
-            for _ in 0..expressions_of(rows, at) {
-                acc = walk.join(conj, acc, value_of(walk, rows, n, k, left - 1));
-                k = end_of(rows, k);
+impl Formula<'_> {
+    // The value of the formula at a row, `left` levels deep at most.
+    pub fn value_of<W: Folding>(&self, walk: &W, at: Label, left: u16) -> W::Value
+        requires { at.0 < self.now.n }
+        ensures { result ≡ value_at (W.fold walk.now) self.now.rows.now left at.0 }
+    {
+        if left == 0 {
+            return walk.at_leaf(at);
+        }
+        let rows = self.rows;
+        let form = form_of(rows, at);
+        match form {
+            Form::False | Form::Star | Form::Unknown => walk.at_leaf(at),
+            Form::Candidate => walk.at_candidate(at, Variable(arg_of(rows, at))),
+            Form::Conjunction | Form::Disjunction | Form::Exists | Form::If => {
+                let conj = is_conjunction(form);
+                let mut acc = walk.unit(conj);
+                let mut k = first_of(rows, at);
+                for _ in 0..expressions_of(rows, at) {
+                    acc = walk.join(conj, acc, self.value_of(walk, k, left - 1));
+                    k = end_of(rows, k);
+                }
+                acc
             }
-            acc
         }
     }
 }

@@ -8,10 +8,9 @@ use mathlib.Core.List.{List, ◌++◌}
 use lib.Dec.{ltb}
 use lib.ListN.{length, get_or, take, drop, length-append}
 use lib.Seq.{take_at}
-use Rattle.paper.specs.declared.refusals.Fault.TheVariants.{NoCandidate, NoOrder, VariableMissed, VariableTwice}
+use Rattle.paper.specs.declared.refusals.Fault.TheVariants.{NoCandidate, NoOrder}
 use Rattle.paper.specs.declared.Refusal.{Refusal}
 use Rattle.paper.specs.Limits.{most_transitions, most_depth, slots}
-use Rattle.paper.specs.declared.Variable.{Variable}
 use Rattle.paper.specs.Transition.{keys}
 use Rattle.paper.specs.Judgement.{Judgement, accepted, refused}
 use Rattle.paper.specs.Judgement.{judge_count, judge_order, judge}

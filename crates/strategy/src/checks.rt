@@ -1,34 +1,33 @@
 // The checks past the table's own, in their order: 10, 11 and 12, 13, 14.
-ghost use Rattle.std.specs.Prelude.{◌≡◌, map, length};
+ghost use Rattle.std.specs.Prelude.{◌≡◌, ◌<◌, map, length};
 ghost use Rattle.paper.specs.Formula.{ℓ};
 ghost use Rattle.marks.specs.Inside.Chosen.{Marked};
-ghost use Rattle.rows.specs.Inside.Walk.{Walkable};
 ghost use Rattle.keys.specs.Inside.Keys.{total, keys_at};
 ghost use Rattle.strategy.specs.Inside.Checks.{counted_as};
 ghost use Rattle.strategy.specs.Inside.Parts.{Parts, Covered, OrderedParts, JudgedParts};
 ghost use Rattle.paper.specs.Limits.{most_depth, slots};
 
-use crate::choice::first_stranger;
 use crate::Accepted;
+use crate::choice::first_stranger;
 use cover::covering_of;
 use cycles::lowest_on_cycle;
 use fingers::Following;
 use keys::{keys_of, total_of};
-use marks::marks_of;
+use marks::{MarkedFormula, marks_of};
 use net::{Choice, Net, note_net};
 use ordering::order;
-use paper::{Label, Refusal};
 use paper::limits::{MOST_DEPTH, MOST_ROWS, MOST_TRANSITIONS, MOST_VARIABLES, SLOTS};
 use paper::refusals::{Fault, refusal_at};
+use paper::{Label, Refusal};
+use rows::walk::Formula;
 use table::Layout;
 
 // 14, or an acceptance.
-fn counted(rows: &[u16], marks: &[u8; MOST_ROWS], l: Layout) -> Result<Accepted, Refusal>
-    requires { Walkable rows.now l.rows 0 }
-    ensures { result ≡ counted_as l (total (keys_at rows.now marks.now most_depth 0)) }
+fn counted(f: &MarkedFormula, l: Layout) -> Result<Accepted, Refusal>
+    requires { 0 < f.now.formula.n }
+    ensures { result ≡ counted_as l (total (keys_at f.now.formula.rows.now f.now.marks.now most_depth 0)) }
 {
-    let n = l.rows as u16;
-    let transitions = total_of(keys_of(rows, marks, n, Label(0), MOST_DEPTH));
+    let transitions = total_of(keys_of(f, Label(0), MOST_DEPTH));
     if MOST_TRANSITIONS < transitions {
         return Err(refusal_at(Fault::TooMany, 0));
     }
@@ -40,20 +39,20 @@ fn counted(rows: &[u16], marks: &[u8; MOST_ROWS], l: Layout) -> Result<Accepted,
 
 // 13, and what follows it. The order is worked out in an array of its own: only an acceptance writes to `out`.
 fn ordered(
-    rows: &[u16],
+    f: &MarkedFormula,
     reads: &[u16],
     chosen: &[u16],
-    marks: &[u8; MOST_ROWS],
     l: Layout,
     out: &mut [u16; SLOTS],
 ) -> Result<Accepted, Refusal>
-    requires { Covered rows.now reads.now chosen.now l.variables l.rows × Marked (map ℓ chosen.now) marks.now × (length out.old ≡ slots) }
-    ensures { OrderedParts rows.now reads.now chosen.now l out.old out.new result }
+    requires { Covered f.now.formula.rows.now reads.now chosen.now l.variables l.rows × (f.now.formula.n ≡ l.rows)
+        × Marked (map ℓ chosen.now) f.now.marks.now × (length out.old ≡ slots) }
+    ensures { OrderedParts f.now.formula.rows.now reads.now chosen.now l out.old out.new result }
 {
     let choice = Choice {
-        rows,
+        rows: f.formula.rows,
         chosen,
-        n: l.rows as u16,
+        n: f.formula.n,
     };
     let mut net = Net {
         parents: [0; MOST_ROWS],
@@ -73,7 +72,7 @@ fn ordered(
         let k = lowest_on_cycle(&following);
         return Err(refusal_at(Fault::NoOrder, usize::from(chosen[k])));
     }
-    let accepted = counted(rows, marks, l)?;
+    let accepted = counted(f, l)?;
     out[..placed].copy_from_slice(&reported[..placed]);
     Ok(accepted)
 }
@@ -94,6 +93,14 @@ pub fn judge_parts(
         return Err(refusal_at(Fault::NoCandidate, usize::from(chosen[k])));
     }
     let marks = marks_of(chosen);
-    covering_of(rows, &marks, l.rows as u16, l.variables as u16)?;
-    ordered(rows, reads, chosen, &marks, l, out)
+    let formula = Formula {
+        rows,
+        n: l.rows as u16,
+    };
+    let f = MarkedFormula {
+        formula,
+        marks: &marks,
+    };
+    covering_of(&f, l.variables as u16)?;
+    ordered(&f, reads, chosen, l, out)
 }

@@ -12,7 +12,7 @@ use Rattle.entries.specs.First.{first}
 use Rattle.rows.specs.Rows.{form_of, meets, taken_before, false_rule, star_rule, candidate_rule, join_rule, bound_rule, ends_within, keeps_rules}
 use Rattle.entries.specs.Entries.{ascend}
 use Rattle.rows.specs.Formula.{star_at, children_at, node_at, formula_at}
-use Rattle.rows.specs.Inside.Walk.{value_at}
+use Rattle.rows.specs.Inside.Walk.{Shaped, value_at}
 use Rattle.written.specs.Example.{P}
 use Rattle.rows.proofs.Shaped.{shaped}
 use Rattle.marks.specs.Marks.{is_marked}
@@ -43,9 +43,12 @@ P-has-two : total (keys_at rows_of_p marks_of_p 64 0) ≡ 2
 unfolding is_marked join_keys form_of star_at children_at node_at formula_at value_at
 P-has-two = refl
 
+P-shaped : Shaped rows_of_p 8
+P-shaped = shaped rows_of_p (0 ∷ []) 2 8 keep (omega arith) (omega arith)
+
 P-keepable : (k : ℕ) → k < 2 → Keepable rows_of_p marks_of_p (replicate 8 7) 8 0 64 (keys_at rows_of_p marks_of_p 64 0) k
 P-keepable k h = record {
-  walkable = record { shaped = shaped rows_of_p (0 ∷ []) 2 8 keep (omega arith) (omega arith); here = omega arith };
+  here = omega arith;
   room = omega arith;
   size = refl;
   own_are = refl;

@@ -13,6 +13,7 @@ use Rattle.paper.specs.Inside.Structure.KeyCount.{key_count_of, number_of, numbe
 use Rattle.paper.specs.Inside.Structure.Kept.{kept_at, kept_each, kept_any, kept_all}
 use Rattle.paper.proofs.Folds.{AtLeaves, AtLeavesOf}
 use Rattle.rows.specs.Formula.{formula_at}
+use Rattle.rows.specs.Inside.Walk.{Shaped}
 use Rattle.keys.specs.declared.Distinct.{Distinct}
 use Rattle.keys.proofs.LeafLabels.{leaves-hold}
 use Rattle.transitions.specs.Inside.Kept.{marked_by, Keepable, KeptAfter, MarkedKept}
@@ -63,12 +64,12 @@ module _ (P : Label → Type 0) where
       every-kept (f ⨾ fs) h = all_append (first-kept f (all-kept f 0 h.0)) (every-kept fs h.1)
 
 -- cleared bytes, with those of the kept labels set
-pub kept-marked : {rows marks out cleared after : List ℕ} {#N k : ℕ} {own : Distinct} → Keepable rows marks out #N 0 most_depth own k
-    → cleared ≡ replicate #N 0 ++ drop #N out → KeptAfter rows marks most_depth 0 k cleared after → MarkedKept rows marks #N k out after
-kept-marked {rows} {marks} {out} {after = after} {#N} {k} p c q = record {
+pub kept-marked : {rows marks out cleared after : List ℕ} {#N k : ℕ} {own : Distinct} → Shaped rows #N
+    → Keepable rows marks out #N 0 most_depth own k → cleared ≡ replicate #N 0 ++ drop #N out → KeptAfter rows marks most_depth 0 k cleared after → MarkedKept rows marks #N k out after
+kept-marked {rows} {marks} {out} {after = after} {#N} {k} s p c q = record {
   bytes_are = λ A marked reads.
       let f = formula_at rows reads most_depth 0 in
-      let below = all-kept (λ l. l.0 < #N) A f k (leaves-hold rows reads (λ l. l.0 < #N) (λ l h. h) most_depth 0 p.walkable) in
+      let below = all-kept (λ l. l.0 < #N) A f k (leaves-hold rows reads (λ l. l.0 < #N) (λ l h. h) most_depth 0 (record { shaped = s; here = p.here })) in
       q.bytes_are A marked reads ∙ ap (marked_by (kept_at A f k)) c
       ∙ marked-front (kept_at A f k) #N (replicate #N 0) (drop #N out) (length-replicate #N 0) below
       ∙ ap (λ xs. xs ++ drop #N out) (marked-bytes (kept_at A f k) #N);

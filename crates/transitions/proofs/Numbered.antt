@@ -87,7 +87,7 @@ module _ (#V : ℕ) (f : Formula) (A : List Label) (formed : WellFormed #V f) (h
         → Keepable rows marks out #N 0 most_depth own k
     transition-keepable own own_are out room =
         let n = ap total own_are ∙ number_is in
-        record { walkable = w; room = room; size = marked.size; own_are = own_are; few = omega arith; among = omega arith }
+        record { here = w.here; room = room; size = marked.size; own_are = own_are; few = omega arith; among = omega arith }
 
 pub transition-says : (#V : ℕ) (f : Formula) (A : List Label) → EachTransitionSays #V f A
 transition-says = kth-says

@@ -53,10 +53,10 @@ of-marks : {A : Type 0} {marks : List ℕ} → length marks ≡ most_rows → (v
 of-marks {marks = marks} size value p q = let m = chosen-marked marks size in by-equation (p (chosen_by marks) m []) (q (chosen_by marks) m [])
 
 pub keep : OneOutcome kept.keep.Kinds.ps kept.keep.Kinds.r kept.keep.Reads.Pre kept.keep.Reads.Post
-keep κs a pre x y v w p q = (refl, λ i. (tt, (tt, (tt, (tt, (tt, (tt, (tt, (of-marks pre.size _ p.bytes_are q.bytes_are i, tt)))))))))
+keep κs a pre x y v w p q = (refl, λ i. (tt, (tt, (tt, (tt, (tt, (of-marks pre.size _ p.bytes_are q.bytes_are i, tt)))))))
 
 pub mark-kept : OneOutcome kept.mark_kept.Kinds.ps kept.mark_kept.Kinds.r kept.mark_kept.Reads.Pre kept.mark_kept.Reads.Post
-mark-kept κs a pre x y v w p q = (refl, λ i. (tt, (tt, (tt, (tt, (tt, (of-marks pre.size _ p.bytes_are q.bytes_are i, tt)))))))
+mark-kept κs a pre x y v w p q = (refl, λ i. (tt, (tt, (tt, (of-marks pre.size _ p.bytes_are q.bytes_are i, tt)))))
 
 pub count_kept : OneOutcome assigned.count_kept.Kinds.ps assigned.count_kept.Kinds.r assigned.count_kept.Reads.Pre assigned.count_kept.Reads.Post
 count_kept κs a pre x y v w p q = (by-equation p q, refl)

@@ -14,7 +14,7 @@ use Rattle.paper.specs.Inside.Structure.Kept.{kept_at}
 use Rattle.rows.specs.Rows.{kind_of, end_of, form_of}
 use Rattle.rows.specs.declared.form.Form.{Form}
 use Rattle.rows.specs.Formula.{formula_at}
-use Rattle.rows.specs.Inside.Walk.{expressions_at, first_at, Walkable}
+use Rattle.rows.specs.Inside.Walk.{expressions_at, first_at, Shaped, Walkable}
 use Rattle.rows.proofs.Rules.{number_of}
 use Rattle.rows.proofs.Walks.{IsJoin, join-kind, Along, along_under, along-on, along-next}
 use Rattle.keys.specs.declared.Distinct.{Distinct}
@@ -66,20 +66,21 @@ pub record Taking (rows marks : List ℕ) (#N left i k : ℕ) (out₀ out : List
 module _ {rows marks : List ℕ} {#N left i k : ℕ} {out₀ : List ℕ} where
   -- it holds as the loop begins, at a join
   pub taking-begins : {f : Form} {each : Bool} {s : Shares} {c : Label} {own : Distinct} → f ≡ form_of (kind_of rows i) → IsJoin f → (left ≡ 0 → ⊥)
-      → Keepable rows marks out₀ #N i left own k → each ≡ goes_by_each f → s ≡ shares_of each own k → c ≡ ℓ (first_at rows i)
+      → Shaped rows #N → Keepable rows marks out₀ #N i left own k → each ≡ goes_by_each f → s ≡ shares_of each own k → c ≡ ℓ (first_at rows i)
       → Taking rows marks #N left i k out₀ out₀ s 0 c
-  taking-begins e join deep p each-is s-is c-is =
+  taking-begins e join deep shaped p each-is s-is c-is =
+      let w : Walkable rows #N i = record { shaped = shaped; here = p.here } in
       let all : expressions_at rows i - 0 ≡ expressions_at rows i = omega arith in
       let high = join-kind e join in
       let few = rw p.own_are at p.few in
       let among = rw p.own_are at p.among in
       record {
         same_length = refl;
-        along = rw (all, number_of c-is) (along_under p.walkable);
-        fits = rw (all, number_of c-is, s-is, p.own_are, each-is, e, each-kind (kind_of rows i)) (fits_under marks left k p.walkable deep high few among);
+        along = rw (all, number_of c-is) (along_under w);
+        fits = rw (all, number_of c-is, s-is, p.own_are, each-is, e, each-kind (kind_of rows i)) (fits_under marks left k w deep high few among);
         marks_all = λ A marked reads.
             ap (λ ls. marked_by ls out₀) (rw (all, number_of c-is, s-is, p.own_are, each-is, e, each-kind (kind_of rows i))
-            (sym (kept_under marks left k p.walkable deep high few among A marked reads)));
+            (sym (kept_under marks left k w deep high few among A marked reads)));
       }
 
   module _ {out : List ℕ} {s : Shares} {j : ℕ} {c : Label} (t : Taking rows marks #N left i k out₀ out s j c) where
@@ -131,7 +132,7 @@ module _ {rows marks : List ℕ} {#N left i k : ℕ} {out₀ out : List ℕ} {s 
       -- where it takes part, it is asked for a key of its own
       pub taking-asks : {q : ℕ} → u.key ≡ Some q → #N ≤ length out₀ → length marks ≡ most_rows → Keepable rows marks out #N c.0 (left - 1) keys q
       taking-asks on room size = record {
-        walkable = taking-on;
+        here = taking-on.here;
         room = let e = t.same_length in omega arith;
         size = size;
         own_are = keys-are;

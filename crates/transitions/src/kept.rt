@@ -6,8 +6,9 @@ ghost use Rattle.paper.specs.Limits.{most_depth};
 
 use crate::{Shares, Turn};
 use keys::{Distinct, keys_of, total_of};
+use marks::MarkedFormula;
 use paper::Label;
-use paper::limits::{MOST_DEPTH, MOST_ROWS};
+use paper::limits::MOST_DEPTH;
 use rows::end_of;
 use rows::form::{Form, form_of};
 use rows::walk::{expressions_of, first_of};
@@ -72,26 +73,16 @@ fn shares_of(each: bool, keys: Distinct, k: u64) -> Shares
 
 // Sets the bytes of the labels that key k of the formula at a row keeps, the formula being `left` levels deep at most and `own`
 // its keys. The keys of a child are counted once, for its turn and for the walk that goes on there.
-// Rows, marks and n stay apart, as the callers have them, here and at `keys_of` and `covering_of`: a struct of the three would be
-// built at each call and taken apart at once.
-pub fn keep(
-    rows: &[u16],
-    marks: &[u8; MOST_ROWS],
-    n: u16,
-    at: Label,
-    left: u16,
-    own: Distinct,
-    k: u64,
-    out: &mut [u8],
-)
-    requires { Keepable rows.now marks.now out.old n at.0 left own k }
-    ensures { KeptAfter rows.now marks.now left at.0 k out.old out.new }
+pub fn keep(f: &MarkedFormula, at: Label, left: u16, own: Distinct, k: u64, out: &mut [u8])
+    requires { Keepable f.now.formula.rows.now f.now.marks.now out.old f.now.formula.n at.0 left own k }
+    ensures { KeptAfter f.now.formula.rows.now f.now.marks.now left at.0 k out.old out.new }
 {
     let i = usize::from(at.0);
     if left == 0 {
         out[i] = 1;
         return;
     }
+    let rows = f.formula.rows;
     let form = form_of(rows, at);
     match form {
         Form::False | Form::Star | Form::Candidate | Form::Unknown => {
@@ -101,10 +92,10 @@ pub fn keep(
             let mut s = shares_of(goes_by_each(form), own, k);
             let mut c = first_of(rows, at);
             for _ in 0..expressions_of(rows, at) {
-                let keys = keys_of(rows, marks, n, c, left - 1);
+                let keys = keys_of(f, c, left - 1);
                 let turn = turn_of(s, total_of(keys));
                 if let Some(key) = turn.key {
-                    keep(rows, marks, n, c, left - 1, keys, key, out);
+                    keep(f, c, left - 1, keys, key, out);
                 }
                 // none of those still to come takes part
                 if let Shares::Done = turn.next {
@@ -127,17 +118,10 @@ fn clear(out: &mut [u8], n: u16)
 
 // Fills the first n bytes with the marks of transition k: 1 for a kept label, else 0. The bytes after them stay. `own` are the keys
 // of the whole formula, so that a caller who asks for many transitions counts them once.
-pub fn mark_kept(
-    rows: &[u16],
-    marks: &[u8; MOST_ROWS],
-    n: u16,
-    own: Distinct,
-    k: u64,
-    out: &mut [u8],
-)
-    requires { Keepable rows.now marks.now out.old n 0 most_depth own k }
-    ensures { MarkedKept rows.now marks.now n k out.old out.new }
+pub fn mark_kept(f: &MarkedFormula, own: Distinct, k: u64, out: &mut [u8])
+    requires { Keepable f.now.formula.rows.now f.now.marks.now out.old f.now.formula.n 0 most_depth own k }
+    ensures { MarkedKept f.now.formula.rows.now f.now.marks.now f.now.formula.n k out.old out.new }
 {
-    clear(out, n);
-    keep(rows, marks, n, Label(0), MOST_DEPTH, own, k, out);
+    clear(out, f.formula.n);
+    keep(f, Label(0), MOST_DEPTH, own, k, out);
 }

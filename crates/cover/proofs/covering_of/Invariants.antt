@@ -4,4 +4,4 @@ use Rattle.cover.proofs.Blocks.{Passed}
 use Rattle.cover.proofs.covering_of.Given as goal
 
 abbrev pub invariant-loop-block : goal.invariant-loop-block
-invariant-loop-block l = Passed l.rows l.marks l.variables l.block l.two
+invariant-loop-block l = Passed l.f.formula.rows.now l.f.marks.now l.variables l.block l.two

@@ -10,7 +10,6 @@ use Rattle.paper.specs.Inside.Structure.Kept.{kept_at}
 use Rattle.rows.specs.declared.form.Form.{Form}
 use Rattle.rows.specs.declared.form.Form.TheVariants as form
 use Rattle.rows.specs.Formula.{formula_at}
-use Rattle.rows.specs.Inside.Walk.{Walkable}
 use Rattle.written.specs.Written.{labels_on}
 use Rattle.keys.specs.declared.Distinct.{Distinct}
 use Rattle.marks.specs.Inside.Chosen.{Marked}
@@ -62,10 +61,10 @@ unfoldable pub marked_by : List Label → List ℕ → List ℕ
 marked_by [] out = out
 marked_by (l ∷ ls) out = marked_by ls (set out l.0 1)
 
--- What a walk to the labels of key k of the formula at row i asks: rows to walk, a byte for each, a mark for each label, the
--- formula's own keys, no more than the limit, and k among them.
+-- What a walk to the labels of key k of the formula at row i asks: i is one of the rows, a byte for each, a mark for each label,
+-- the formula's own keys, no more than the limit, and k among them.
 pub record Keepable (rows marks out : List ℕ) (#N i left : ℕ) (own : Distinct) (k : ℕ) : Type 0 where
-  pub walkable : Walkable rows #N i
+  pub here : i < #N
   pub room : #N ≤ length out
   pub size : length marks ≡ most_rows
   pub own_are : own ≡ keys_at rows marks left i

@@ -1,5 +1,5 @@
 -- A stranger is refused, then what the covering finds; parts that pass both are ordered and counted.
-use mathlib.Core.Path.{sym, ap, ◌∙◌}
+use mathlib.Core.Path.{refl, sym, ap, ◌∙◌}
 use Rattle.std.specs.Prelude.{Err}
 use Rattle.std.proofs.lemmas.Result.{err_from_is_err_and}
 use Rattle.paper.specs.declared.refusals.Fault.TheVariants.{NoCandidate}
@@ -12,8 +12,11 @@ pub returns-then-k-chosen : goal.returns-then-k-chosen
 returns-then-k-chosen c =
     stranger-refused _ c.requires.0 c.first_stranger-k.ensures _ c.if-k-chosen.true (ap Err (c.refusal_at.ensures ∙ ap (refusal NoCandidate) c.from.ensures))
 
+pub invariant_of-formula : goal.invariant_of-formula
+invariant_of-formula c = record { shaped = (walkable c.requires.0).shaped }
+
 pub covering_of-requires : goal.covering_of-requires
-covering_of-requires c = walkable c.requires.0
+covering_of-requires c = (walkable c.requires.0).here
 
 pub returns-in_err-covering_of : goal.returns-in_err-covering_of
 returns-in_err-covering_of c =
@@ -25,6 +28,7 @@ pub ordered-requires : goal.ordered-requires
 ordered-requires c = (
   all-covered c.args.l c.requires.0 c.first_stranger-k.ensures c.marks_of-marks.ensures.marked c.if-k-chosen.false
       (sym c.covering_of.ensures ∙ c.in_ok-covering_of.was),
+  refl,
   c.marks_of-marks.ensures.marked,
   c.requires.1,
 )

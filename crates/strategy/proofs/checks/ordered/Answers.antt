@@ -13,10 +13,10 @@ use Rattle.strategy.proofs.Answers.{cycle-there, cycle-refused, count-refused, c
 use Rattle.strategy.proofs.checks.ordered.Goals as goal
 
 pub invariant_of-choice : goal.invariant_of-choice
-invariant_of-choice c = record { made = choice c.requires.0 }
+invariant_of-choice c = record { made = rw c.requires.1 (choice c.requires.0) }
 
 pub invariant_of-following : goal.invariant_of-following
-invariant_of-following c = record { ready = readied c.requires.0 (is_net c.note_net.ensures) }
+invariant_of-following c = record { ready = rw c.requires.1 (readied c.requires.0 (rw c.requires.1 at (is_net c.note_net.ensures))) }
 
 pub offset_bounds-chosen-k : goal.offset_bounds-chosen-k
 offset_bounds-chosen-k c =
@@ -34,15 +34,15 @@ returns-then-placed-chosen c =
     (ap Err (c.refusal_at.ensures ∙ ap (refusal NoOrder) c.from.ensures))
 
 pub counted-requires : goal.counted-requires
-counted-requires c = walkable c.requires.0.parts
+counted-requires c = let h = (walkable c.requires.0.parts).here in omega (arith, c.requires.1)
 
 pub returns-in_err-accepted : goal.returns-in_err-accepted
 returns-in_err-accepted c =
     let p = err_from_is_err_and c.from_residual.result c.from_residual.ensures.1 in
     rw (p.1, p.2)
-    (count-refused _ c.requires.0 c.order-placed.ensures c.if-placed-chosen.false c.requires.1 (sym c.in_err-accepted.was ∙ c.counted.ensures) _ refl)
+    (count-refused _ c.requires.0 c.order-placed.ensures c.if-placed-chosen.false c.requires.2 (sym c.in_err-accepted.was ∙ c.counted.ensures) _ refl)
 
 pub returns : goal.returns
 returns c =
-    count-accepted _ c.requires.0 c.order-placed.ensures c.if-placed-chosen.false c.requires.1 (sym c.in_ok-accepted.was ∙ c.counted.ensures) refl
+    count-accepted _ c.requires.0 c.order-placed.ensures c.if-placed-chosen.false c.requires.2 (sym c.in_ok-accepted.was ∙ c.counted.ensures) refl
     (simp c.copy_from_slice.ensures.after)

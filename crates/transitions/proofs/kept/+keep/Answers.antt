@@ -15,12 +15,12 @@ pub loop-init : goal.loop-init
 loop-init t c = record {
   all = c.expressions_of-end.ensures;
   taking =
-      taking-begins c.form_of-form.ensures c.in-Conjunction.is c.if-left-eq0.false c.requires c.goes_by_each.ensures c.shares_of-s.ensures
-      c.first_of-c.ensures;
+      taking-begins c.form_of-form.ensures c.in-Conjunction.is c.if-left-eq0.false c.args.f.now.formula.shaped c.requires
+      c.goes_by_each.ensures c.shares_of-s.ensures c.first_of-c.ensures;
 }
 
 pub keys_of-keys-requires : goal.keys_of-keys-requires
-keys_of-keys-requires t c = taking-on c.loop.invariant.taking (omega (arith, c.loop.invariant.all, c.loop-test.true))
+keys_of-keys-requires t c = (taking-on c.loop.invariant.taking (omega (arith, c.loop.invariant.all, c.loop-test.true))).here
 
 pub turn_of-turn-requires : goal.turn_of-turn-requires
 turn_of-turn-requires t c =

@@ -11,6 +11,6 @@ decreases-keep l = l.left
 abbrev pub invariant-loop : goal.invariant-loop
 invariant-loop l =
     record {
-      all : l.end ≡ expressions_at l.rows l.fn.at.0;
-      taking : Taking l.rows l.marks l.n l.left l.fn.at.0 l.fn.k l.initial.out l.out l.s l.counter l.c;
+      all : l.end ≡ expressions_at l.f.formula.rows.now l.fn.at.0;
+      taking : Taking l.f.formula.rows.now l.f.marks.now l.f.formula.n l.left l.fn.at.0 l.fn.k l.initial.out l.out l.s l.counter l.c;
     }

@@ -3,4 +3,4 @@ use Rattle.transitions.proofs.KeptBelow.{kept-marked}
 use Rattle.transitions.proofs.kept.mark_kept.Goals as goal
 
 pub returns : goal.returns
-returns c = kept-marked c.requires c.clear.ensures c.keep.ensures
+returns c = kept-marked c.args.f.now.formula.shaped c.requires c.clear.ensures c.keep.ensures

@@ -20,17 +20,20 @@ marks_of-marks-requires c = let e = c.args.self.now.judged_so in lent_below _ _ 
 pub offset_bounds-words-rows : goal.offset_bounds-words-rows
 offset_bounds-words-rows c = let r = parts-reached _ _ c.args.self.now.judged_so in omega arith
 
-pub slice_bounds-keys_of-count : goal.slice_bounds-keys_of-count
-slice_bounds-keys_of-count c = let r = parts-reached _ _ c.args.self.now.judged_so in omega arith
+pub slice_bounds-formula-count : goal.slice_bounds-formula-count
+slice_bounds-formula-count c = let r = parts-reached _ _ c.args.self.now.judged_so in omega arith
 
-pub slice_bounds-keys_of-start : goal.slice_bounds-keys_of-start
-slice_bounds-keys_of-start c = let r = parts-reached _ _ c.args.self.now.judged_so in omega arith
+pub slice_bounds-formula-start : goal.slice_bounds-formula-start
+slice_bounds-formula-start c = let r = parts-reached _ _ c.args.self.now.judged_so in omega arith
 
-pub overflow_cast-l : goal.overflow_cast-l
-overflow_cast-l c = let r = rows_fit _ _ c.args.self.now.judged_so in search rules
+pub overflow_cast-formula : goal.overflow_cast-formula
+overflow_cast-formula c = let r = rows_fit _ _ c.args.self.now.judged_so in search rules
 
 pub keys_of-own-requires : goal.keys_of-own-requires
-keys_of-own-requires c = lent-walkable _ _ c.args.self.now.judged_so
+keys_of-own-requires c = (lent-walkable _ _ c.args.self.now.judged_so).here
+
+pub invariant_of-formula : goal.invariant_of-formula
+invariant_of-formula c = record { shaped = (lent-walkable _ _ c.args.self.now.judged_so).shaped }
 
 pub invariant_of-result : goal.invariant_of-result
 invariant_of-result c =

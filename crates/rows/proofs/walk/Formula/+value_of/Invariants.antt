@@ -3,7 +3,7 @@
 use mathlib.Core.Path.{◌≡◌}
 use Rattle.rows.specs.Inside.Walk.{expressions_at}
 use Rattle.rows.proofs.Walks.{Walking}
-use Rattle.rows.proofs.walk.+value_of.Given as goal
+use Rattle.rows.proofs.walk.Formula.+value_of.Given as goal
 
 abbrev pub decreases-value_of : goal.decreases-value_of
 decreases-value_of g l = l.left
@@ -11,6 +11,6 @@ decreases-value_of g l = l.left
 abbrev pub invariant-loop : goal.invariant-loop
 invariant-loop g l =
     record {
-      all : l.end ≡ expressions_at l.rows l.fn.at.0;
-      walking : Walking (g.W.Folding.fold l.walk) l.rows l.n l.left l.fn.at.0 l.conj l.acc l.counter l.k;
+      all : l.end ≡ expressions_at l.self.rows.now l.fn.at.0;
+      walking : Walking (g.W.Folding.fold l.walk) l.self.rows.now l.self.n l.left l.fn.at.0 l.conj l.acc l.counter l.k;
     }

@@ -3,7 +3,7 @@
 use native.Mathlib.Omega.{arith}
 use mathlib.Core.Path.{sym, ◌∙◌}
 use Rattle.rows.proofs.Walks.{value_none, value-lone, value-candidate, row-there, walk_begins, walk-on, walk-turns, walk_ends}
-use Rattle.rows.proofs.walk.+value_of.Goals as goal
+use Rattle.rows.proofs.walk.Formula.+value_of.Goals as goal
 
 pub returns-then-left-eq0 : goal.returns-then-left-eq0
 returns-then-left-eq0 g t c = c.at_leaf.ensures.0 ∙ sym (value_none _ _ _ _ c.if-left-eq0.true)
@@ -12,14 +12,14 @@ pub loop-init : goal.loop-init
 loop-init g t c = record {
   all = c.expressions_of-end.ensures;
   walking =
-      walk_begins c.requires c.if-left-eq0.false c.form_of-form.ensures c.in-Conjunction.is c.is_conjunction-conj.ensures c.unit-acc.ensures
-      c.first_of-k.ensures;
+      walk_begins (record { shaped = c.args.self.now.shaped; here = c.requires }) c.if-left-eq0.false c.form_of-form.ensures c.in-Conjunction.is
+      c.is_conjunction-conj.ensures c.unit-acc.ensures c.first_of-k.ensures;
 }
 
 pub value_of-requires : goal.value_of-requires
 value_of-requires g t c κs within = (
   omega (arith, c.if-left-eq0.false),
-  (within.0, (within.1, walk-on c.loop.invariant.walking (omega (arith, c.loop.invariant.all, c.loop-test.true)))),
+  (within.0, (within.1, (walk-on c.loop.invariant.walking (omega (arith, c.loop.invariant.all, c.loop-test.true))).here)),
 )
 
 pub end_of-k-requires : goal.end_of-k-requires
