@@ -57,7 +57,8 @@ pub part-goes-on : (words : List ℕ) {n : ℕ} (j : Result Accepted Refusal) �
     → (0 < many_pieces words j room n) × (n + many_pieces words j room n ≤ pieces j)
 part-goes-on words {n} j o room e h = go j o n h
   where
-    go : (j : Result Accepted Refusal) → AcceptedIf words j → (n : ℕ) → n < pieces j → (0 < many_pieces words j room n) × (n + many_pieces words j room n ≤ pieces j)
+    go : (j : Result Accepted Refusal) → AcceptedIf words j → (n : ℕ) → n < pieces j
+        → (0 < many_pieces words j room n) × (n + many_pieces words j room n ≤ pieces j)
     go j o zero h = (omega arith, omega arith)
     go (Err x) o (suc k) h = absurd (omega arith)
     go (Ok a) o (suc k) h =
