@@ -4,8 +4,8 @@ ghost use Rattle.std.specs.Prelude.{◌≡◌};
 ghost use Rattle.reader.specs.Reading.{behind_rows, row_at, past_at};
 
 use crate::Row;
-use paper::{Label, Refusal};
 use paper::limits::{MOST_READS, MOST_ROWS, MOST_VARIABLES};
+use paper::{Label, Refusal};
 use rows::{arg_of, end_of, from_of, kind_of};
 use sections::Cursor;
 

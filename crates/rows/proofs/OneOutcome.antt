@@ -1,5 +1,5 @@
 -- For each public function, any two outcomes that its contract allows are equal.
-use mathlib.Core.Path.{refl, ap}
+use mathlib.Core.Path.{◌≡◌, refl, ap, subst}
 use Rattle.paper.specs.Formula.{ℓ}
 use mir.Syntax.{Dict}
 use denote.RattleType.{RattleType}
@@ -7,6 +7,9 @@ use denote.Param.Laws.{Laws}
 use Rattle.paper.specs.Outcome.{OneOutcome}
 use Rattle.paper.proofs.Outcome.{by-equation}
 use Rattle.rows.specs.declared.walk.Folding.{Ghosts}
+use Rattle.rows.specs.declared.walk.Children.{Children}
+use Rattle.rows.specs.Inside.Walk.{Stand}
+use Rattle.rows.specs.Inside.OneProof.{Stand-prop}
 use Rattle.rows.proofs as rows
 use Rattle.rows.proofs.depth as depth
 use Rattle.rows.proofs.form as form
@@ -41,6 +44,17 @@ expressions-of κs a pre x y v w p q = (by-equation p q, refl)
 
 pub first_of : OneOutcome walk.first_of.Kinds.ps walk.first_of.Kinds.r walk.first_of.Reads.Pre walk.first_of.Reads.Post
 first_of κs a pre x y v w p q = (by-equation p q, refl)
+
+one-children : (x y : Children) → x.rows ≡ y.rows → x.more ≡ y.more → x.at ≡ y.at → x ≡ y
+one-children x y p q r =
+    subst (λ at. (s : Stand y.rows.now y.more at.0) → x ≡ record { rows = y.rows; more = y.more; at = at; there = s }) r
+    (subst (λ more. (s : Stand y.rows.now more x.at.0) → x ≡ record { rows = y.rows; more = more; at = x.at; there = s }) q
+    (subst (λ rows. (s : Stand rows.now x.more x.at.0) → x ≡ record { rows = rows; more = x.more; at = x.at; there = s }) p
+    (λ s i. record { rows = x.rows; more = x.more; at = x.at; there = Stand-prop x.rows.now x.more x.at.0 x.there s i }))) y.there
+
+pub formula-children :
+    OneOutcome walk.Formula.children.Kinds.ps walk.Formula.children.Kinds.r walk.Formula.children.Reads.Pre walk.Formula.children.Reads.Post
+formula-children κs a pre x y v w p q = (one-children x y (by-equation p.0 q.0) (by-equation p.1 q.1) (by-equation p.2 q.2), refl)
 
 -- of a walk, whatever it works out
 pub formula-value_of : (T U : RattleType) (t : Laws T) (u : Laws U) (F : Ghosts T.Denot U.Denot) (d : Dict)

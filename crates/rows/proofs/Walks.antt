@@ -18,7 +18,8 @@ use Rattle.rows.specs.Rows.{kind_of, arg_of, end_of, form_of, meets}
 use Rattle.rows.specs.declared.form.Form.{Form}
 use Rattle.rows.specs.declared.form.Form.TheVariants as form
 use Rattle.rows.specs.Formula.{star_at, children_at, node_at, formula_at}
-use Rattle.rows.specs.Inside.Walk.{expressions, first_under, is_conjunction, expressions_at, first_at, Shaped, Walkable, skeleton_at, value_at, joined_from}
+use Rattle.rows.specs.Inside.Walk.{expressions, first_under, is_conjunction, expressions_at, first_at, Shaped, Walkable, Stand}
+use Rattle.rows.specs.Inside.Walk.{skeleton_at, value_at, joined_from}
 use Rattle.rows.proofs.Forms.{by_form}
 use Rattle.rows.proofs.Rules.{number_of}
 use Rattle.rows.proofs.Meets.{Child, child}
@@ -157,6 +158,11 @@ module _ {rows : List ℕ} {#N : ℕ} where
     pub along-next : Along rows #N (m - 1) (end_of rows k)
     along-next = record { shaped = a.shaped; stop = a.stop; within = a.within; meet = (first-child rows a.stop k m some a.meet).others }
 
+  -- and all of them have their words
+  pub along-stand : (m : ℕ) {k : ℕ} → Along rows #N m k → Stand rows m k
+  along-stand zero a = tt
+  along-stand (suc m) a = (row-there (along-on a (omega arith)), along-stand m (rw (sub-one (suc m)) at (along-next a (omega arith))))
+
 -- the forms with expressions under them, and their kind words
 abbrev pub IsJoin : Form → Type 0
 IsJoin f = (f ≡ form.Conjunction) ⊎ ((f ≡ form.Disjunction) ⊎ ((f ≡ form.Exists) ⊎ (f ≡ form.If)))
@@ -188,42 +194,38 @@ conjunction-kind k =
     by_form (λ f. is_conjunction f ≡ eqb k 3) k (λ e. rw e) (λ e. rw e) (λ e. rw e) (λ e. rw e) (λ e. rw e) (λ e. rw e) (λ e. rw e)
     (λ h. sym (ne_eqb k 3 (λ e. omega arith)))
 
--- The invariant of a loop over the expressions under row i, which is read `left` levels deep at most: j of them are passed, a is
--- what they joined to, and the next stands at label k. Joined to a, those still to come give the value at the row.
-pub record Walking {A : Type 0} (r : Fold A) (rows : List ℕ) (#N left i : ℕ) (c : Bool) (a : A) (j : ℕ) (k : Label) : Type 0 where
-  pub along : Along rows #N (expressions_at rows i - j) k.0
-  pub value : joined_from r rows (left - 1) c a (expressions_at rows i - j) k.0 ≡ value_at r rows left i
+-- The invariant of a loop over the expressions under row i, which is read `left` levels deep at most: a is what those passed
+-- joined to, m are still to come, and the next stands at label k. Joined to a, those give the value at the row.
+pub record Walking {A : Type 0} (r : Fold A) (rows : List ℕ) (#N left i : ℕ) (c : Bool) (a : A) (m : ℕ) (k : Label) : Type 0 where
+  pub along : Along rows #N m k.0
+  pub value : joined_from r rows (left - 1) c a m k.0 ≡ value_at r rows left i
 
 module _ {A : Type 0} {r : Fold A} {rows : List ℕ} {#N left i : ℕ} where
   -- it holds as the loop begins
-  pub walk_begins : {f : Form} {c : Bool} {a : A} {k : Label} → Walkable rows #N i → (left ≡ 0 → ⊥) → f ≡ form_of (kind_of rows i) → IsJoin f
-      → c ≡ is_conjunction f → a ≡ r.unit c → k ≡ ℓ (first_at rows i) → Walking r rows #N left i c a 0 k
-  walk_begins w deep is join d e g =
-      let all : expressions_at rows i - 0 ≡ expressions_at rows i = omega arith in
+  pub walk_begins : {f : Form} {c : Bool} {a : A} {m : ℕ} {k : Label} → Walkable rows #N i → (left ≡ 0 → ⊥) → f ≡ form_of (kind_of rows i) → IsJoin f
+      → c ≡ is_conjunction f → a ≡ r.unit c → m ≡ expressions_at rows i → k ≡ ℓ (first_at rows i) → Walking r rows #N left i c a m k
+  walk_begins w deep is join d e all g =
       let some = w.shaped.joined i w.here (join-kind is join) in
       record {
         along = rw (all, number_of g) (along_under w);
         value = rw (all, number_of g, e, d, is, conjunction-kind (kind_of rows i)) (sym (value-join r rows left i deep some));
       }
 
-  module _ {c : Bool} {a : A} {j : ℕ} {k : Label} (s : Walking r rows #N left i c a j k) where
-    module _ (more : j < expressions_at rows i) where
-      -- in a turn the walk can go on at k
-      pub walk-on : Walkable rows #N k.0
-      walk-on = along-on s.along (omega arith)
+  module _ {c : Bool} {a : A} {m : ℕ} {k : Label} (s : Walking r rows #N left i c a m k) where
+    module _ (some : 0 < m) where
+      -- in a turn the walk can go on at the next one
+      pub walk-on : {next : Label} → next ≡ k → Walkable rows #N next.0
+      walk-on here = rw here (along-on s.along some)
 
       -- and after it, with the value at k joined and k moved to its end, it holds again
-      pub walk-turns : {b a' : A} {k' : Label} → b ≡ value_at r rows (left - 1) k.0 → a' ≡ r.join c a b → k' ≡ ℓ (end_of rows k.0)
-          → Walking r rows #N left i c a' (j + 1) k'
-      walk-turns d e f =
-          let m = expressions_at rows i - j in
-          let some : 0 < m = omega arith in
-          let one_less : expressions_at rows i - (j + 1) ≡ m - 1 = omega arith in
+      pub walk-turns : {next : Label} {b a' : A} {m' : ℕ} {k' : Label} → next ≡ k → b ≡ value_at r rows (left - 1) next.0 → a' ≡ r.join c a b
+          → m' ≡ m - 1 → k' ≡ ℓ (end_of rows k.0) → Walking r rows #N left i c a' m' k'
+      walk-turns here d e one_less f =
           record {
             along = rw (one_less, number_of f) (along-next s.along some);
-            value = rw (one_less, number_of f, e, d) (sym (joined_step r rows (left - 1) c a m k.0 some) ∙ s.value);
+            value = rw (one_less, number_of f, e, d, here) (sym (joined_step r rows (left - 1) c a m k.0 some) ∙ s.value);
           }
 
     -- with no expression left, what is joined is the value at the row
-    pub walk_ends : expressions_at rows i ≤ j → a ≡ value_at r rows left i
-    walk_ends done = sym (joined_end r rows (left - 1) c a (expressions_at rows i - j) k.0 (omega arith)) ∙ s.value
+    pub walk_ends : m ≡ 0 → a ≡ value_at r rows left i
+    walk_ends done = sym (joined_end r rows (left - 1) c a m k.0 done) ∙ s.value

@@ -1,4 +1,5 @@
 pub mod Tree
 pub mod Walk
 pub mod OneProof
+pub mod Stepping
 pub mod Looks

@@ -2,8 +2,9 @@
 ghost use Rattle.std.specs.Prelude.{◌≡◌, ◌+◌, ◌*◌, ◌≤◌, ◌<◌, length};
 ghost use Rattle.paper.specs.Formula.{ℓ};
 ghost use Rattle.paper.specs.Inside.Structure.Fold.{Fold};
-ghost use Rattle.rows.specs.Inside.Walk.{expressions_at, first_at, is_conjunction, Shaped, value_at};
-ghost use Rattle.rows.specs.Inside.OneProof.{Shaped-prop};
+ghost use Rattle.std.specs.Iterator.{at_most};
+ghost use Rattle.rows.specs.Inside.Walk.{expressions_at, first_at, is_conjunction, Shaped, Stand, value_at};
+ghost use Rattle.rows.specs.Inside.OneProof.{Shaped-prop, Stand-prop};
 ghost use Rattle.paper.specs.Limits.{most_rows};
 
 use crate::form::{Form, form_of};
@@ -16,6 +17,40 @@ pub struct Formula<'a> {
     pub rows: &'a [u16],
     pub n: u16,
     pub ghost shaped: { Shaped rows.now n } by { Shaped-prop rows.now n },
+}
+
+// The expressions right under a row that are still to come: how many, and the row of the next.
+#[derive(Drop)]
+pub struct Children<'a> {
+    pub rows: &'a [u16],
+    pub more: u16,
+    pub at: Label,
+    pub ghost there: { Stand rows.now more at.0 } by { Stand-prop rows.now more at.0 },
+}
+
+// Each stands at the end of the one before.
+impl Iterator for Children<'_> {
+    ghost use Rattle.rows.specs.Inside.Stepping.{Steps};
+
+    type Item = Label;
+
+    ghost next_gives = { Steps };
+
+    ghost remaining = { λ s. at_most s.more };
+
+    fn next(&mut self) -> Option<Label> {
+        if self.more == 0 {
+            return None;
+        }
+        let rows = self.rows;
+        let here = self.at;
+        *self = Children {
+            rows,
+            more: self.more - 1,
+            at: end_of(rows, here),
+        };
+        Some(here)
+    }
 }
 
 // What a walk works out of a formula: a value for each leaf, and how the values of a join's children are joined from a unit on.
@@ -48,7 +83,21 @@ fn is_conjunction(form: Form) -> bool
     matches!(form, Form::Conjunction)
 }
 
-impl Formula<'_> {
+impl<'a> Formula<'a> {
+    // The expressions right under a row.
+    pub fn children(&self, at: Label) -> Children<'a>
+        requires { at.0 < self.now.n }
+        ensures { (result.rows ≡ self.now.rows) × (result.more ≡ expressions_at self.now.rows.now at.0)
+            × (result.at ≡ ℓ (first_at self.now.rows.now at.0)) }
+    {
+        let rows = self.rows;
+        Children {
+            rows,
+            more: expressions_of(rows, at),
+            at: first_of(rows, at),
+        }
+    }
+
     // The value of the formula at a row, `left` levels deep at most.
     pub fn value_of<W: Folding>(&self, walk: &W, at: Label, left: u16) -> W::Value
         requires { at.0 < self.now.n }
@@ -65,10 +114,8 @@ impl Formula<'_> {
             Form::Conjunction | Form::Disjunction | Form::Exists | Form::If => {
                 let conj = is_conjunction(form);
                 let mut acc = walk.unit(conj);
-                let mut k = first_of(rows, at);
-                for _ in 0..expressions_of(rows, at) {
-                    acc = walk.join(conj, acc, self.value_of(walk, k, left - 1));
-                    k = end_of(rows, k);
+                for child in self.children(at) {
+                    acc = walk.join(conj, acc, self.value_of(walk, child, left - 1));
                 }
                 acc
             }

@@ -38,7 +38,13 @@ impl Cursor {
     }
 
     // The section's count and its presence.
-    pub fn open(self, part: &[u16], low: usize, high: usize, width: usize) -> Result<Cursor, Refusal>
+    pub fn open(
+        self,
+        part: &[u16],
+        low: usize,
+        high: usize,
+        width: usize,
+    ) -> Result<Cursor, Refusal>
         requires { (self.at ≤ 65536) × (high * width ≤ 65536) }
         ensures { result ≡ open_at part.now self low high width }
     {

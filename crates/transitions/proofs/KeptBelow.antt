@@ -65,7 +65,8 @@ module _ (P : Label → Type 0) where
 
 -- cleared bytes, with those of the kept labels set
 pub kept-marked : {rows marks out cleared after : List ℕ} {#N k : ℕ} {own : Distinct} → Shaped rows #N
-    → Keepable rows marks out #N 0 most_depth own k → cleared ≡ replicate #N 0 ++ drop #N out → KeptAfter rows marks most_depth 0 k cleared after → MarkedKept rows marks #N k out after
+    → Keepable rows marks out #N 0 most_depth own k → cleared ≡ replicate #N 0 ++ drop #N out
+    → KeptAfter rows marks most_depth 0 k cleared after → MarkedKept rows marks #N k out after
 kept-marked {rows} {marks} {out} {after = after} {#N} {k} s p c q = record {
   bytes_are = λ A marked reads.
       let f = formula_at rows reads most_depth 0 in

@@ -1,6 +1,6 @@
 -- The loop of `keep` over the expressions under a row: what is left for those still to come, together with the bytes set so far,
 -- gives what all of them give from the beginning.
-use Prim.Native.Nat.{ℕ, ◌+◌, ◌-◌, ◌<◌, ◌≤◌}
+use Prim.Native.Nat.{ℕ, ◌-◌, ◌<◌, ◌≤◌}
 use native.Mathlib.Omega.{arith}
 use mathlib.Core.Path.{◌≡◌, refl, sym, ap, subst, ◌∙◌}
 use mathlib.Core.Bool.{Bool}
@@ -54,23 +54,22 @@ module _ {rows marks : List ℕ} {left i : ℕ} {u : Turn} {out after : List ℕ
   unfolding marked_by
   turned-off off = rw now (record { same_length = refl; bytes_are = λ A marked reads. rw off })
 
--- The loop over the expressions under row i, for key k, began with bytes out₀. Now j of them are passed, the next stands at label c, and
--- those still to come take part by s: with what they keep set too, the bytes are those of key k.
-pub record Taking (rows marks : List ℕ) (#N left i k : ℕ) (out₀ out : List ℕ) (s : Shares) (j : ℕ) (c : Label) : Type 0 where
+-- The loop over the expressions under row i, for key k, began with bytes out₀. Now m of them are still to come, the next stands at
+-- label c, and they take part by s: with what they keep set too, the bytes are those of key k.
+pub record Taking (rows marks : List ℕ) (#N left i k : ℕ) (out₀ out : List ℕ) (s : Shares) (m : ℕ) (c : Label) : Type 0 where
   pub same_length : length out ≡ length out₀
-  pub along : Along rows #N (expressions_at rows i - j) c.0
-  pub fits : Fits s (totals_from rows marks (left - 1) (expressions_at rows i - j) c.0)
+  pub along : Along rows #N m c.0
+  pub fits : Fits s (totals_from rows marks (left - 1) m c.0)
   pub marks_all : (A : List Label) → Marked A marks → (reads : List ℕ)
-      → marked_by (kept_from A rows marks reads (left - 1) s (expressions_at rows i - j) c.0) out ≡ marked_by (kept_at A (formula_at rows reads left i) k) out₀
+      → marked_by (kept_from A rows marks reads (left - 1) s m c.0) out ≡ marked_by (kept_at A (formula_at rows reads left i) k) out₀
 
 module _ {rows marks : List ℕ} {#N left i k : ℕ} {out₀ : List ℕ} where
   -- it holds as the loop begins, at a join
-  pub taking-begins : {f : Form} {each : Bool} {s : Shares} {c : Label} {own : Distinct} → f ≡ form_of (kind_of rows i) → IsJoin f → (left ≡ 0 → ⊥)
-      → Shaped rows #N → Keepable rows marks out₀ #N i left own k → each ≡ goes_by_each f → s ≡ shares_of each own k → c ≡ ℓ (first_at rows i)
-      → Taking rows marks #N left i k out₀ out₀ s 0 c
-  taking-begins e join deep shaped p each-is s-is c-is =
+  pub taking-begins : {f : Form} {each : Bool} {s : Shares} {m : ℕ} {c : Label} {own : Distinct} → f ≡ form_of (kind_of rows i) → IsJoin f → (left ≡ 0 → ⊥)
+      → Shaped rows #N → Keepable rows marks out₀ #N i left own k → each ≡ goes_by_each f → s ≡ shares_of each own k → m ≡ expressions_at rows i
+      → c ≡ ℓ (first_at rows i) → Taking rows marks #N left i k out₀ out₀ s m c
+  taking-begins e join deep shaped p each-is s-is all c-is =
       let w : Walkable rows #N i = record { shaped = shaped; here = p.here } in
-      let all : expressions_at rows i - 0 ≡ expressions_at rows i = omega arith in
       let high = join-kind e join in
       let few = rw p.own_are at p.few in
       let among = rw p.own_are at p.among in
@@ -83,27 +82,21 @@ module _ {rows marks : List ℕ} {#N left i k : ℕ} {out₀ : List ℕ} where
             (sym (kept_under marks left k w deep high few among A marked reads)));
       }
 
-  module _ {out : List ℕ} {s : Shares} {j : ℕ} {c : Label} (t : Taking rows marks #N left i k out₀ out s j c) where
+  module _ {out : List ℕ} {s : Shares} {m : ℕ} {c : Label} (t : Taking rows marks #N left i k out₀ out s m c) where
     -- where no expression is left, or none of those that are takes part, the bytes are those of key k
-    none-left : ((A : List Label) (reads : List ℕ) → kept_from A rows marks reads (left - 1) s (expressions_at rows i - j) c.0 ≡ [])
+    none-left : ((A : List Label) (reads : List ℕ) → kept_from A rows marks reads (left - 1) s m c.0 ≡ [])
         → KeptAfter rows marks left i k out₀ out
     unfolding marked_by
     none-left none = record { bytes_are = λ A marked reads. ap (λ ls. marked_by ls out) (sym (none A reads)) ∙ t.marks_all A marked reads }
 
-    pub taking-ends : expressions_at rows i ≤ j → KeptAfter rows marks left i k out₀ out
-    taking-ends done = none-left (λ A reads. kept-end A rows marks reads (left - 1) s (expressions_at rows i - j) c.0 (omega arith))
+    pub taking-ends : m ≡ 0 → KeptAfter rows marks left i k out₀ out
+    taking-ends done = none-left (λ A reads. kept-end A rows marks reads (left - 1) s m c.0 (omega arith))
 
     pub taking-stops : s ≡ Done → KeptAfter rows marks left i k out₀ out
-    taking-stops e = none-left (λ A reads. rw e (none_after A rows marks reads (left - 1) (expressions_at rows i - j) c.0))
+    taking-stops e = none-left (λ A reads. rw e (none_after A rows marks reads (left - 1) m c.0))
 
-module _ {rows marks : List ℕ} {#N left i k : ℕ} {out₀ out : List ℕ} {s : Shares} {j : ℕ} {c : Label}
-    (t : Taking rows marks #N left i k out₀ out s j c) (more : j < expressions_at rows i) where
-  abbrev m : ℕ
-  m = expressions_at rows i - j
-
-  some : 0 < m
-  some = omega arith
-
+module _ {rows marks : List ℕ} {#N left i k : ℕ} {out₀ out : List ℕ} {s : Shares} {m : ℕ} {c : Label}
+    (t : Taking rows marks #N left i k out₀ out s m c) (some : 0 < m) where
   -- in a turn the walk can go on at c
   pub taking-on : Walkable rows #N c.0
   taking-on = along-on t.along some
@@ -145,9 +138,8 @@ module _ {rows marks : List ℕ} {#N left i k : ℕ} {out₀ out : List ℕ} {s 
         next-is : u.next ≡ (turn_of s own).next
         next-is = ap (λ u. u.next) turn-here
 
-        pub taking-turns : {c' : Label} → c' ≡ ℓ (end_of rows c.0) → Taking rows marks #N left i k out₀ out' u.next (j + 1) c'
-        taking-turns c-is =
-            let one_less : expressions_at rows i - (j + 1) ≡ m - 1 = omega arith in
+        pub taking-turns : {m' : ℕ} {c' : Label} → m' ≡ m - 1 → c' ≡ ℓ (end_of rows c.0) → Taking rows marks #N left i k out₀ out' u.next m' c'
+        taking-turns one_less c-is =
             record {
               same_length = kept.same_length ∙ t.same_length;
               along = rw (one_less, number_of c-is) (along-next t.along some);

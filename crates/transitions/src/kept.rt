@@ -9,9 +9,7 @@ use keys::{Distinct, keys_of, total_of};
 use marks::MarkedFormula;
 use paper::Label;
 use paper::limits::MOST_DEPTH;
-use rows::end_of;
 use rows::form::{Form, form_of};
-use rows::walk::{expressions_of, first_of};
 
 // The turn of a child that has `own` keys.
 #[tactic(auto, unfolding(crate::specs::Inside::Kept::turn_of))]
@@ -82,27 +80,24 @@ pub fn keep(f: &MarkedFormula, at: Label, left: u16, own: Distinct, k: u64, out:
         out[i] = 1;
         return;
     }
-    let rows = f.formula.rows;
-    let form = form_of(rows, at);
+    let form = form_of(f.formula.rows, at);
     match form {
         Form::False | Form::Star | Form::Candidate | Form::Unknown => {
             out[i] = 1;
         }
         Form::Conjunction | Form::Disjunction | Form::Exists | Form::If => {
             let mut s = shares_of(goes_by_each(form), own, k);
-            let mut c = first_of(rows, at);
-            for _ in 0..expressions_of(rows, at) {
-                let keys = keys_of(f, c, left - 1);
+            for child in f.formula.children(at) {
+                let keys = keys_of(f, child, left - 1);
                 let turn = turn_of(s, total_of(keys));
                 if let Some(key) = turn.key {
-                    keep(f, c, left - 1, keys, key, out);
+                    keep(f, child, left - 1, keys, key, out);
                 }
                 // none of those still to come takes part
                 if let Shares::Done = turn.next {
                     return;
                 }
                 s = turn.next;
-                c = end_of(rows, c);
             }
         }
     }

@@ -1,9 +1,9 @@
 -- That a walk can go over rows has one proof at most, as a fact that a value keeps must have.
-use Rattle.std.specs.Prelude.{ℕ, ◌*◌, ◌<◌, ◌≤◌, true, ◌≡◌, List, length}
+use Rattle.std.specs.Prelude.{ℕ, zero, suc, ◌+◌, ◌*◌, ◌<◌, ◌≤◌, true, ◌≡◌, List, length}
 use Rattle.std.proofs.Props.{props}
 use Rattle.paper.specs.Limits.{most_rows}
 use Rattle.rows.specs.Rows.{kind_of, end_of, meets}
-use Rattle.rows.specs.Inside.Walk.{expressions_at, first_at, Shaped}
+use Rattle.rows.specs.Inside.Walk.{expressions_at, first_at, Shaped, Stand}
 
 pub Shaped-prop : (rows : List ℕ) (#N : ℕ) → IsProp (Shaped rows #N)
 Shaped-prop rows #N x y =
@@ -23,3 +23,9 @@ Shaped-prop rows #N x y =
       under = under_prop x.under y.under i;
       joined = joined_prop x.joined y.joined i;
     }
+
+pub Stand-prop : (rows : List ℕ) (m i : ℕ) → IsProp (Stand rows m i)
+Stand-prop rows zero i x y = λ j. tt
+Stand-prop rows (suc m) i x y =
+    let here_prop : IsProp (4 * i + 4 ≤ length rows) = hlevel props in
+    λ j. (here_prop x.0 y.0 j, Stand-prop rows m (end_of rows i) x.1 y.1 j)

@@ -64,6 +64,11 @@ pub record Walkable (rows : List ℕ) (#N i : ℕ) : Type 0 where
   pub shaped : Shaped rows #N
   pub here : i < #N
 
+-- m rows from row i on, each at the end of the one before, have their words
+abbrev pub Stand : List ℕ → ℕ → ℕ → Type 0
+Stand rows zero i = Unit {0}
+Stand rows (suc m) i = (4 * i + 4 ≤ length rows) × Stand rows m (end_of rows i)
+
 -- The formula at row i with stars that read nothing, so many levels deep at most: no fold looks at what stars read.
 abbrev pub skeleton_at : List ℕ → ℕ → ℕ → Formula
 skeleton_at rows left i = formula_at rows [] left i
