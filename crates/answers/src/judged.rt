@@ -65,7 +65,9 @@ impl<'a> AcceptedTable<'a> {
         count_kept(&self.words[chosen..], &kept[..n])
     }
 
-    // The kept labels of transition k, in the first N bytes of `out`.
+    // The kept labels of transition k, in the first N bytes of `out`. Apart from its caller, so that the arrays are not on the stack while
+    // the table is judged; so the next.
+    #[inline(never)]
     pub fn transition_of(&self, k: usize, out: &mut [u8]) -> Result<Length, Refusal>
         ensures { Fills (transition_outcome self.now.words.now k (length out.old) self.now.accepted.layout self.now.accepted.transitions)
             out.old out.new result }
@@ -84,6 +86,7 @@ impl<'a> AcceptedTable<'a> {
     }
 
     // The chosen labels of transition k in reported order, V words, at the front of `out`; `order` begins with the reported order.
+    #[inline(never)]
     pub fn assignments_of(
         &self,
         order: &[u16],
