@@ -85,7 +85,8 @@ impl<'a> AcceptedTable<'a> {
         fill(&kept[..l.rows], out)
     }
 
-    // The chosen labels of transition k in reported order, V words, at the front of `out`; `order` begins with the reported order.
+    // The chosen labels of transition k in reported order, V words, at the front of `out`; `order` begins with the reported order, and
+    // stands apart: two functions have it.
     #[inline(never)]
     pub fn assignments_of(
         &self,

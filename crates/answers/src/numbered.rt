@@ -15,7 +15,7 @@ use transitions::assigned::fill_assigned;
 use transitions::kept::mark_kept;
 
 // What every transition of a table is worked out from: the marks of the chosen labels, and the keys of the formula. A caller that asks
-// for many transitions works it out once, and lends it.
+// for many transitions works it out once, and lends it. The marks are an array of fixed length: there is no heap.
 #[derive(Drop)]
 pub struct Basis<'a> {
     pub table: AcceptedTable<'a>,

@@ -136,7 +136,7 @@ fn masks_of(f: &MarkedFormula, block: u16) -> Masks
         })
 }
 
-// The lowest bit set of the m lowest, or m.
+// The lowest bit set of the m lowest, or m, as `first` has it.
 fn lowest_bit(w: u64, m: u16) -> u16
     requires { m ≤ 64 }
     ensures { result ≡ first (bit_at w) m }

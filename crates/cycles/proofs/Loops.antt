@@ -28,12 +28,12 @@ finish-more mark₀ mark stack from p h u w = record {
 pub settle-none : (stack : List ℕ) (from best : ℕ) → Settled stack from from best best
 settle-none stack from best = record { not_above = omega arith; all = λ p h u. absurd (omega arith); one = λ d. absurd (d refl) }
 
-pub settle-more : (stack : List ℕ) (from p best r s : ℕ) → from ≤ p → s ≡ min r (get_or stack p 0)
-    → Settled stack from p best r → Settled stack from (p + 1) best s
-settle-more stack from p best r s u l w = record {
+pub settle-more : (stack : List ℕ) (from p n best r s : ℕ) → n ≡ p + 1 → from ≤ p → s ≡ min r (get_or stack p 0)
+    → Settled stack from p best r → Settled stack from n best s
+settle-more stack from p n best r s m u l w = record {
   not_above = omega (arith, l, w.not_above);
-  all = λ q hq lq. by-eq q p (λ e. omega (arith, l, ap (λ (z : ℕ). get_or stack z 0) e)) (λ d. omega (arith, l, w.all q (omega arith) lq));
-  one = λ d. by-eq s r (λ e. let o = w.one (λ q. d (e ∙ q)) in (o.0, omega (arith, o.1), o.2, e ∙ o.3)) (λ e. (p, omega arith, u, omega arith));
+  all = λ q hq lq. by-eq q p (λ e. omega (arith, l, ap (λ (z : ℕ). get_or stack z 0) e)) (λ d. omega (arith, l, w.all q (omega (arith, m)) lq));
+  one = λ d. by-eq s r (λ e. let o = w.one (λ q. d (e ∙ q)) in (o.0, omega (arith, m, o.1), o.2, e ∙ o.3)) (λ e. (p, omega (arith, m), u, omega arith));
 }
 
 -- t segments are left so far

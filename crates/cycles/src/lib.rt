@@ -44,8 +44,8 @@ fn finish(mark: &mut [u16; SLOTS], stack: &[u16; SLOTS], from: usize, len: usize
     requires { (length mark.old ≡ slots) × (len ≤ slots) × (from ≤ len) × ((p : ℕ) → p < len → get_or stack.now p 0 < slots) }
     ensures { Finished mark.old stack.now from len mark.new }
 {
-    for p in from..len {
-        mark[usize::from(stack[p])] = 1;
+    for &i in &stack[from..len] {
+        mark[usize::from(i)] = 1;
     }
 }
 
@@ -55,8 +55,8 @@ fn settle(stack: &[u16; SLOTS], from: usize, len: usize, best: usize) -> usize
     ensures { Settled stack.now from len best result }
 {
     let mut r = best;
-    for p in from..len {
-        r = r.min(usize::from(stack[p]));
+    for &i in &stack[from..len] {
+        r = r.min(usize::from(i));
     }
     r
 }
@@ -98,6 +98,7 @@ impl Path {
         let len = w.len;
         let top = w.top;
         let at = w.at;
+        // cast, here and below: through From it is a call's result, and the answers of this function did not close
         let b = self.bound[top - 1] as usize;
         if at == b {
             finish(&mut self.mark, &self.stack, b, len);
@@ -186,7 +187,7 @@ fn is_before_itself(g: &Following, j: usize) -> bool
     false
 }
 
-// The lowest index that is before itself, or how many there are.
+// The lowest index that is before itself, or how many there are, as `Selfless` has it.
 fn first_self(g: &Following) -> usize
     ensures { Selfless (graph g.now) result }
 {

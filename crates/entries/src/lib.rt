@@ -1,5 +1,5 @@
 // Entries, one word each: the lowest that is not above the one before, or that is beyond a limit (refusals 4, 5 and 9, and a
-// star's reads in 6). A search gives its n where there is none, as `first` does.
+// star's reads in 6). A search gives its n where there is none, as `first` does; n stands apart from the words, since any may follow them.
 #![tactic(auto)]
 
 ghost use Rattle.std.specs.Prelude.{◌≡◌, ℕ, ◌≤◌, ◌<◌, ◌||◌, length};

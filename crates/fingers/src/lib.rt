@@ -58,6 +58,7 @@ impl<'a> Following<'a> {
     {
         let rows = self.choice.rows;
         let size = self.choice.chosen.len();
+        // cast, here and in `seek`: through From it is a call's result, and the answers did not close
         let next = p.next as usize;
         if next < size {
             return Spot {

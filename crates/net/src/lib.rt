@@ -25,7 +25,7 @@ pub struct Choice<'a> {
 
 // What is kept: for each row the row over it and the star of the innermost guard around it, or label 0 for none; for each
 // chosen label the index of the next one with its variable, and for each variable the index of its first, or how many
-// there are for none.
+// there are for none. Words in arrays of fixed length: there is no heap.
 #[derive(Drop)]
 pub struct Net {
     pub parents: [u16; MOST_ROWS],
@@ -108,7 +108,7 @@ fn guarded_by(c: &Choice, parents: &[u16; MOST_ROWS], guards: &[u16; MOST_ROWS],
     ensures { result ≡ ℓ (guard_of c.now.rows.now at.0) }
 {
     let top = label_at(parents, at);
-    // no enum here: by the definition all kind words from 5 on guard, two of them forms
+    // by number, as `is_guarded` has it: an enum would name Exists, If and what is no form
     if kind_of(c.rows, top) < 5 {
         return label_at(guards, top);
     }
@@ -154,6 +154,7 @@ pub fn note_net(c: &Choice, net: &mut Net)
 
 // Whether candidates i and j share a branch, and what that tells of the labels after i: i itself where they do, else a label
 // above it below which none from i on shares a branch with j. One label says both, as `Cleared` has it.
+// No `Choice` comes in: a tree and its parents are enough.
 pub fn clear_of(rows: &[u16], net: &Net, n: u16, i: Label, j: Label) -> Label
     requires { Tree rows.now n × Parents rows.now n net.now.parents × (i.0 < n) × (j.0 < n)
         × (kind_of rows.now i.0 ≡ 2) × (kind_of rows.now j.0 ≡ 2) }

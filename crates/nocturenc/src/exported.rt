@@ -19,7 +19,7 @@ fn packed_refusal(r: Refusal) -> u64
     u64::from(u8::from(r.fault)) * 72057594037927936 + u64::from(r.place)
 }
 
-// The counts of an accepted table, each in its bits.
+// The counts of an accepted table, each in its bits. They are cast, since there is no From of usize for u64.
 fn packed_counts(c: Counts) -> u64
     requires { FitCounts c }
     ensures { result ≡ counts_of c }

@@ -17,7 +17,7 @@ use paper::limits::SLOTS;
 const NO_INDEX: u16 = SLOTS as u16;
 
 // What is kept of each index that is left: its finger, the index that it waits for, and the lowest that waits for it. It is
-// words, with `NO_INDEX` for none: the memory is fixed.
+// words, with `NO_INDEX` for none: the memory is fixed, and an Option would double them on the stack.
 #[derive(Drop)]
 struct Waits {
     finger: [u64; SLOTS],

@@ -7,6 +7,8 @@ pub mod refusals; // the reasons to refuse and their numbers, and the one functi
 
 use refusals::Fault;
 
+// Labels and variables are compared by their numbers: a derived order or equality is a call, whose answer no arithmetic reads.
+
 // A row's label: its position among the rows of the table (document 001: a label of the set L).
 #[derive(Clone, Copy)]
 pub struct Label(pub u16);

@@ -55,7 +55,8 @@ impl From<Fault> for u8 {
     }
 }
 
-// The refusal for this reason, at this place. Every refusal is made here.
+// The refusal for this reason, at this place. Every refusal is made here. The cast is proved to lose nothing, here and wherever a number
+// is cast to a narrower type: `TryFrom` would bring a refusal that cannot happen.
 pub fn refusal_at(fault: Fault, place: usize) -> Refusal
     requires { place < 2 ^ 32 }
     ensures { result ≡ refusal fault place }

@@ -18,7 +18,7 @@ pub enum Form {
     Unknown,
 }
 
-// The form of a row.
+// The form of a row: the one place where a kind word becomes a form.
 pub fn form_of(rows: &[u16], at: Label) -> Form
     requires { 4 * at.0 + 4 ≤ length rows.now }
     ensures { result ≡ form_of (kind_of rows.now at.0) }

@@ -171,7 +171,8 @@ fn ends_within(n: u16, at: Label, end: Label) -> bool
     end.0 <= n
 }
 
-// Whether a row keeps its rules, where the stars before it take `taken` reads.
+// Whether a row keeps its rules, where the stars before it take `taken` reads. Six parameters: what the rules are about; the row's own
+// words are in `Row`.
 fn keeps_rules(
     rows: &[u16],
     reads: &[u16],
@@ -204,7 +205,7 @@ fn taken_by(rows: &[u16], at: Label) -> usize
     0
 }
 
-// The lowest of n rows that breaks its rules, or n.
+// The lowest of n rows that breaks its rules, or n, as `first` has it.
 pub fn first_broken(rows: &[u16], reads: &[u16], variables: usize, n: u16) -> Label
     requires { (4 * n ≤ length rows.now) × (n ≤ most_rows) }
     ensures { result.0 ≡ first (breaks_rules rows.now reads.now variables n) n }

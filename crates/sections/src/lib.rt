@@ -13,7 +13,8 @@ use rows::depth::first_deep;
 use rows::{first_broken, reads_taken};
 
 // Between two sections: the position of the next count word, how many entries the section before it has, and
-// V, R and N once they are known. Checking a section gives the cursor behind it, or a refusal.
+// V, R and N once they are known. Checking a section gives the cursor behind it, or a refusal. That `at` is small is asked by each method,
+// and is no invariant: behind `open` it may be more.
 #[derive(Clone, Copy)]
 pub struct Cursor {
     pub at: usize,

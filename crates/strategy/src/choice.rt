@@ -18,7 +18,7 @@ fn is_stranger(rows: &[u16], chosen: &[u16], k: usize) -> bool
     }
 }
 
-// The index of the first chosen label that is no candidate, or how many there are.
+// The index of the first chosen label that is no candidate, or how many there are, as `first` has it.
 pub fn first_stranger(rows: &[u16], chosen: &[u16]) -> usize
     requires { (k : ℕ) → k < length chosen.now → 4 * get_or chosen.now k 0 + 4 ≤ length rows.now }
     ensures { result ≡ first (is_stranger rows.now chosen.now) (length chosen.now) }

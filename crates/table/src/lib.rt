@@ -10,7 +10,7 @@ use paper::Refusal;
 use sections::Cursor;
 
 // What sound words hold: the counts V, R, N and S, and the positions of the first read, the first row and the first
-// chosen label. The names begin at word 1.
+// chosen label. The names begin at word 1. Positions, and no slices: what `check` answers outlives the loan.
 #[derive(Clone, Copy)]
 pub struct Layout {
     pub variables: usize,

@@ -17,7 +17,8 @@ pub fn count_kept(labels: &[u16], kept: &[u8]) -> usize
         .count()
 }
 
-// Puts those of the first `count` labels that are kept at the front of a slice, in their order; gives how many they are.
+// Puts those of the first `count` labels that are kept at the front of a slice, in their order; gives how many they are. `count` stands
+// apart: what follows the order may be anything.
 pub fn fill_assigned(order: &[u16], count: usize, kept: &[u8], out: &mut [u16]) -> usize
     requires { Fillable order.now count kept.now out.old }
     ensures filled { result ≡ length (kept_of kept.now (take count order.now)) }

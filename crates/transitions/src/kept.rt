@@ -70,7 +70,8 @@ fn shares_of(each: bool, keys: Distinct, k: u64) -> Shares
 }
 
 // Sets the bytes of the labels that key k of the formula at a row keeps, the formula being `left` levels deep at most and `own`
-// its keys. The keys of a child are counted once, for its turn and for the walk that goes on there.
+// its keys. The keys of a child are counted once, for its turn and for the walk that goes on there. Six parameters: `at`, `left`, `own` and
+// `k` change at each step.
 pub fn keep(f: &MarkedFormula, at: Label, left: u16, own: Distinct, k: u64, out: &mut [u8])
     requires { Keepable f.now.formula.rows.now f.now.marks.now out.old f.now.formula.n at.0 left own k }
     ensures { KeptAfter f.now.formula.rows.now f.now.marks.now left at.0 k out.old out.new }

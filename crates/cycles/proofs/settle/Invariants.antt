@@ -1,6 +1,7 @@
--- The loop's invariant: r is the least of `best` and the indices from `from` up to position p.
+-- The loop's invariant: r is the least of `best` and the indices from `from` up to the one that is gone on from.
+use Prim.Native.Nat.{◌+◌}
 use Rattle.cycles.specs.Inside.Path.{Settled}
 use Rattle.cycles.proofs.settle.Given as goal
 
-abbrev pub invariant-loop-p : goal.invariant-loop-p
-invariant-loop-p l = Settled l.stack l.from l.p l.best l.r
+abbrev pub invariant-loop-i : goal.invariant-loop-i
+invariant-loop-i l = Settled l.stack l.from (l.from + l.i-index) l.best l.r
