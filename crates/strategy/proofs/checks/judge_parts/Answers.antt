@@ -15,9 +15,6 @@ returns-then-k-chosen c =
 pub invariant_of-formula : goal.invariant_of-formula
 invariant_of-formula c = record { shaped = (walkable c.requires.0).shaped }
 
-pub covering_of-requires : goal.covering_of-requires
-covering_of-requires c = (walkable c.requires.0).here
-
 pub returns-in_err-covering_of : goal.returns-in_err-covering_of
 returns-in_err-covering_of c =
     let p = err_from_is_err_and c.from_residual.result c.from_residual.ensures.1 in

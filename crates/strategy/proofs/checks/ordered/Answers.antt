@@ -7,7 +7,6 @@ use Rattle.std.proofs.lemmas.Result.{err_from_is_err_and}
 use Rattle.paper.specs.declared.refusals.Fault.TheVariants.{NoOrder}
 use Rattle.paper.specs.Refusals.{refusal}
 use Rattle.net.proofs.Notes.{is_net}
-use Rattle.strategy.proofs.Held.{walkable}
 use Rattle.strategy.proofs.Placed.{choice, readied}
 use Rattle.strategy.proofs.Answers.{cycle-there, cycle-refused, count-refused, count-accepted}
 use Rattle.strategy.proofs.checks.ordered.Goals as goal
@@ -32,9 +31,6 @@ pub returns-then-placed-chosen : goal.returns-then-placed-chosen
 returns-then-placed-chosen c =
     cycle-refused _ c.requires.0 c.order-placed.ensures _ c.if-placed-chosen.true c.lowest_on_cycle-k.ensures
     (ap Err (c.refusal_at.ensures ∙ ap (refusal NoOrder) c.from.ensures))
-
-pub counted-requires : goal.counted-requires
-counted-requires c = let h = (walkable c.requires.0.parts).here in omega (arith, c.requires.1)
 
 pub returns-in_err-accepted : goal.returns-in_err-accepted
 returns-in_err-accepted c =

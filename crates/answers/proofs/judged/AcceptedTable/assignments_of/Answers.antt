@@ -1,6 +1,6 @@
 -- The checks in their order, and then the chosen labels that stand in reported order are copied.
 use native.Mathlib.Omega.{arith}
-use mathlib.Core.Path.{refl, ap}
+use mathlib.Core.Path.{ap}
 use Rattle.std.specs.Prelude.{Err}
 use Rattle.answers.proofs.Accepted.{few-transitions}
 use Rattle.answers.proofs.Keeping.{assigned-as-key, assigned-front}
@@ -17,10 +17,6 @@ pub refusal_at-requires-then-assigned-l : goal.refusal_at-requires-then-assigned
 refusal_at-requires-then-assigned-l c =
     let n = few-transitions _ _ c.args.self.now.judged_so in
     omega (arith, c.if-count-k.false)
-
-pub put_assigned-assigned-requires : goal.put_assigned-assigned-requires
-put_assigned-assigned-requires c =
-    rw c.basis-basis.ensures.table (c.requires, omega (arith, c.if-count-k.false), refl, refl)
 
 pub returns-then-assigned-l : goal.returns-then-assigned-l
 returns-then-assigned-l c =

@@ -38,7 +38,3 @@ invariant_of-formula c = record { shaped = (lent-walkable _ _ c.args.self.now.ju
 pub invariant_of-result : goal.invariant_of-result
 invariant_of-result c =
     record { based = is-based _ _ (based-so _ _ c.args.self.now.judged_so c.marks_of-marks.ensures c.keys_of-own.ensures.0) }
-
-pub returns-clause-exactly : goal.returns-clause-exactly
-returns-clause-exactly c =
-    based-so _ _ c.args.self.now.judged_so c.marks_of-marks.ensures c.keys_of-own.ensures.0

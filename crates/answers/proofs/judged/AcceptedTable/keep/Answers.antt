@@ -1,11 +1,8 @@
--- The bytes of transition k are put by what it is worked out from, and the chosen labels among the kept are counted.
+-- The bytes of transition k are put, and the chosen labels among the kept are counted.
 use native.Mathlib.Omega.{arith}
-use mathlib.Core.Path.{ap, ◌∙◌}
+use mathlib.Core.Path.{◌∙◌}
 use Rattle.answers.proofs.Keeping.{parts-reached, lent_below, front-there, front_length, chosen-counted}
 use Rattle.answers.proofs.judged.AcceptedTable.keep.Goals as goal
-
-pub put_kept-requires : goal.put_kept-requires
-put_kept-requires c = (omega (arith, ap (λ t. t.accepted.transitions) c.basis-basis.ensures.table, c.requires.0), c.requires.1)
 
 pub offset_bounds-self-chosen : goal.offset_bounds-self-chosen
 offset_bounds-self-chosen c = let r = parts-reached _ _ c.args.self.now.judged_so in omega arith

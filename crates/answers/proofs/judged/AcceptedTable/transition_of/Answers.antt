@@ -28,12 +28,6 @@ slice_bounds-kept-end c = (front-there _ _ c.args.self.now.judged_so _ c.if-coun
 pub slice_bounds-fill-end : goal.slice_bounds-fill-end
 slice_bounds-fill-end c = front_length _ _ c.args.self.now.judged_so _ c.if-count-k.false _ _ c.keep-chosen.ensures.bytes
 
-pub fill-requires : goal.fill-requires
-fill-requires c =
-    let n = front_length _ _ c.args.self.now.judged_so _ c.if-count-k.false _ _ c.keep-chosen.ensures.bytes in
-    let few = (front-there _ _ c.args.self.now.judged_so _ c.if-count-k.false _ _ c.keep-chosen.ensures.bytes).1 in
-    omega arith
-
 pub returns : goal.returns
 returns c =
     let front = front-is _ _ c.args.self.now.judged_so _ c.if-count-k.false _ _ c.keep-chosen.ensures.bytes in
