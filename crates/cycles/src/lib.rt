@@ -49,7 +49,8 @@ fn finish(mark: &mut [u16; SLOTS], stack: &[u16; SLOTS], from: usize, len: usize
     }
 }
 
-// The least of `best` and the indices of the path from position `from` on.
+// The least of `best` and the indices of the path from position `from` on. Positions, here as in `finish`: `Settled` and `Finished` speak
+// of them.
 fn settle(stack: &[u16; SLOTS], from: usize, len: usize, best: usize) -> usize
     requires { (len ≤ slots) × (from ≤ len) }
     ensures { Settled stack.now from len best result }
@@ -72,7 +73,8 @@ fn counted(stack: &[u16; SLOTS], from: usize, len: usize, best: usize) -> usize
     best
 }
 
-// How many segments are left when those that start above position p are joined to the one that holds it.
+// How many segments are left when those that start above position p are joined to the one that holds it. Counted down to the first that
+// starts no further: a `for` would want an answer behind it.
 fn merged(bound: &[u16; SLOTS], top: usize, p: usize) -> usize
     requires { (top ≤ slots) × (0 < top) × (get_or bound.now 0 0 ≡ 0) }
     ensures { Merged bound.now top p result }

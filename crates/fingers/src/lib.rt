@@ -107,7 +107,7 @@ impl<'a> Following<'a> {
         clear.0 == i.0
     }
 
-    // Whether k, which may be no index, is one that is open, and calls.
+    // Whether k, which may be no index, is one that is open, and calls. Six parameters: those of `calls` and `outside`, and what is known.
     fn look(&self, mark: &[u16; SLOTS], b: usize, k: usize, j: usize, known: &mut Known) -> bool
         requires { (b < slots) × (j < length self.now.choice.chosen.now)
             × Apart self.now.choice.rows.now self.now.choice.chosen.now j known.old.from.0 known.old.to.0 }

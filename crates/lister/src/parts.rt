@@ -18,7 +18,8 @@ pub fn pieces_of(listed: Result<Listed, Refusal>) -> usize
     }
 }
 
-// The part of an accepted table's listing that begins with piece `next`; gives the piece that comes after it.
+// The part of an accepted table's listing that begins with piece `next`; gives the piece that comes after it. The pieces are counted, as
+// `PartPut` has them: the head is the first.
 fn put_accepted_part(listed: &Listed, next: usize, pen: &mut Pen) -> usize
     requires { (next < pieces (Ok listed.now.basis.now.table.accepted)) × Fresh pen.old }
     ensures { PartPut listed.now.basis.now.table.words.now (Ok listed.now.basis.now.table.accepted) next pen.old pen.new result }

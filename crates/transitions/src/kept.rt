@@ -55,7 +55,7 @@ fn goes_by_each(form: Form) -> bool
     matches!(form, Form::Conjunction | Form::Exists)
 }
 
-// How the children of a join take part in its key k.
+// How the children of a join take part in its key k. The flag is that of the definition `shares_of`.
 #[tactic(auto, unfolding(crate::specs::Inside::Kept::shares_of))]
 fn shares_of(each: bool, keys: Distinct, k: u64) -> Shares
     ensures { result ≡ shares_of each keys k }
