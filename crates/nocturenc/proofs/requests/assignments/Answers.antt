@@ -1,11 +1,8 @@
 -- The judgement's refusal is the answer, or what is asked of the accepted table is, by the order that the judgement leaves.
 use Rattle.std.proofs.lemmas.Result.{err_from_is_err_and}
 use Rattle.answers.proofs.Answers.{refused-first, accepted-first}
-use Rattle.answers.proofs.Accepted.{accepts, order-stands}
+use Rattle.answers.proofs.Accepted.{order-stands}
 use Rattle.nocturenc.proofs.requests.assignments.Goals as goal
-
-pub invariant_of-table : goal.invariant_of-table
-invariant_of-table c = record { judged_so = accepts _ _ _ _ c.judge_into.ensures _ c.in_ok-accepted.was }
 
 pub assignments_of-requires : goal.assignments_of-requires
 assignments_of-requires c = order-stands _ _ _ _ c.judge_into.ensures _ c.in_ok-accepted.was

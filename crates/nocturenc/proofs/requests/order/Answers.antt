@@ -1,5 +1,4 @@
 -- The order that the judgement leaves is copied into the lent slice, or the refusal is the answer.
-use native.Mathlib.Omega.{arith}
 use mathlib.Core.Path.{sym}
 use lib.Seq.{length-take-le}
 use Rattle.std.proofs.lemmas.Result.{err_from_is_err_and}
@@ -13,12 +12,6 @@ slice_bounds-reported-end c = (order_there _ _ _ _ c.judge_into.ensures _ c.in_o
 pub slice_bounds-fill-end : goal.slice_bounds-fill-end
 slice_bounds-fill-end c =
     sym (length-take-le _ _ (order_there _ _ _ _ c.judge_into.ensures _ c.in_ok-accepted.was).0)
-
-pub fill-requires : goal.fill-requires
-fill-requires c =
-    let p = order_there _ _ _ _ c.judge_into.ensures _ c.in_ok-accepted.was in
-    let n = length-take-le _ _ p.0 in
-    omega arith
 
 pub returns : goal.returns
 returns c = order-filled _ _ _ _ c.judge_into.ensures _ c.in_ok-accepted.was c.fill.ensures

@@ -1,11 +1,7 @@
 -- The judgement's refusal is the answer, or what is asked of the accepted table is.
-use mathlib.Core.Path.{sym, ◌∙◌}
 use Rattle.std.proofs.lemmas.Result.{err_from_is_err_and}
 use Rattle.answers.proofs.Answers.{refused-first, accepted-first}
 use Rattle.nocturenc.proofs.requests.transition.Goals as goal
-
-pub invariant_of-table : goal.invariant_of-table
-invariant_of-table c = record { judged_so = sym c.judge.ensures ∙ c.in_ok-accepted.was }
 
 pub returns : goal.returns
 returns c = accepted-first _ _ c.judge.ensures _ c.in_ok-accepted.was _ c.transition_of.ensures
