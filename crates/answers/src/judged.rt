@@ -11,7 +11,7 @@ use filling::{Length, fill};
 use keys::keys_of;
 use marks::{MarkedFormula, marks_of};
 use paper::limits::{MOST_DEPTH, MOST_ROWS, SLOTS};
-use paper::refusals::{Fault, refusal_at};
+use paper::refusals::{Fault, refusal_for};
 use paper::{Label, Refusal};
 use rows::walk::Formula;
 use strategy::Accepted;
@@ -75,12 +75,12 @@ impl<'a> AcceptedTable<'a> {
         let l = self.accepted.layout;
         let count = self.accepted.transitions;
         if count <= k {
-            return Err(refusal_at(Fault::NoSuchTransition, count));
+            return Err(refusal_for(Fault::NoSuchTransition, count));
         }
         let mut kept = [0u8; MOST_ROWS];
         let chosen = self.keep(k, &mut kept);
         if chosen != l.variables {
-            return Err(refusal_at(Fault::Uneven, k));
+            return Err(refusal_for(Fault::Uneven, k));
         }
         fill(&kept[..l.rows], out)
     }
@@ -101,14 +101,14 @@ impl<'a> AcceptedTable<'a> {
         let l = self.accepted.layout;
         let count = self.accepted.transitions;
         if count <= k {
-            return Err(refusal_at(Fault::NoSuchTransition, count));
+            return Err(refusal_for(Fault::NoSuchTransition, count));
         }
         let basis = self.basis();
         let mut kept = [0u8; MOST_ROWS];
         let mut labels = [0u16; SLOTS];
         let assigned = basis.put_assigned(order, k, &mut kept, &mut labels);
         if assigned != l.variables {
-            return Err(refusal_at(Fault::Uneven, k));
+            return Err(refusal_for(Fault::Uneven, k));
         }
         fill(&labels[..assigned], out)
     }

@@ -8,7 +8,7 @@ ghost use Rattle.cover.specs.Inside.Masks.{leaf_masks, join_masks, masks_fold, m
 
 use marks::{MarkedFormula, is_marked};
 use paper::limits::{MOST_DEPTH, MOST_ROWS};
-use paper::refusals::{Fault, refusal_at};
+use paper::refusals::{Fault, refusal_for};
 use paper::{Label, Refusal, Variable};
 use rows::walk::Folding;
 
@@ -35,8 +35,8 @@ impl From<Uncovered> for Refusal {
 
     fn from(x: Uncovered) -> Refusal {
         match x {
-            Uncovered::Missed(v) => refusal_at(Fault::VariableMissed, usize::from(v.0)),
-            Uncovered::Doubled(v) => refusal_at(Fault::VariableTwice, usize::from(v.0)),
+            Uncovered::Missed(v) => refusal_for(Fault::VariableMissed, usize::from(v.0)),
+            Uncovered::Doubled(v) => refusal_for(Fault::VariableTwice, usize::from(v.0)),
         }
     }
 }

@@ -5,7 +5,7 @@ ghost use Rattle.std.specs.Prelude.{◌<◌, ◌^◌, length};
 ghost use Rattle.filling.specs.Filling.{unless_short, Fills};
 
 use paper::Refusal;
-use paper::refusals::{Fault, refusal_at};
+use paper::refusals::{Fault, refusal_for};
 
 // How many words or bytes a request filled.
 #[derive(Clone, Copy)]
@@ -20,7 +20,7 @@ pub fn fill<T: Copy>(from: &[T], out: &mut [T]) -> Result<Length, Refusal>
 {
     let count = from.len();
     if out.len() < count {
-        return Err(refusal_at(Fault::OutTooShort, count));
+        return Err(refusal_for(Fault::OutTooShort, count));
     }
     out[..count].copy_from_slice(from);
     Ok(Length { count })

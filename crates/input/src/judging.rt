@@ -5,7 +5,7 @@ ghost use Rattle.paper.specs.Limits.{most_bytes, slots};
 
 use paper::Refusal;
 use paper::limits::SLOTS;
-use paper::refusals::{Fault, refusal_at};
+use paper::refusals::{Fault, refusal_for};
 use strategy::{Accepted, judge_into};
 
 // The answer to any bytes, at most 65,536, whose words these are. Of accepted ones the reported order stands in front of `order`; a
@@ -19,7 +19,7 @@ pub fn judge_bytes(
     ensures { JudgedBytes bytes.now order.old order.new result }
 {
     if bytes.len() % 2 == 1 {
-        return Err(refusal_at(Fault::OddBytes, bytes.len() / 2));
+        return Err(refusal_for(Fault::OddBytes, bytes.len() / 2));
     }
     judge_into(words, order)
 }

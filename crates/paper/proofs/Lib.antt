@@ -1,6 +1,7 @@
 pub mod Bools
 pub mod Lists
 pub mod Tests
+pub mod Faults
 pub mod Outcome
 pub mod OneOutcome
 pub mod Labels

@@ -4,8 +4,8 @@ use Rattle.std.specs.Prelude.{ℕ, cond, List, [], ◌∷◌, Result, Ok, Err, e
 use Rattle.paper.specs.declared.refusals.Fault.{Fault}
 use Rattle.paper.specs.declared.refusals.Fault.TheVariants.{Absent, CountOutOfRange, NameNotAbove, ReadBeyond, RowBroken, ReadsLeft}
 use Rattle.paper.specs.declared.refusals.Fault.TheVariants.{TooDeep, EntryUnfit, WordsFollow, NoCandidate, VariableMissed, VariableTwice}
-use Rattle.paper.specs.declared.refusals.Fault.TheVariants.{NoOrder, TooMany, NoSuchTransition, Uneven, OutTooShort, OddBytes}
-use Rattle.paper.specs.declared.Refusal.{Refusal}
+use Rattle.paper.specs.declared.refusals.Fault.TheVariants.{NoOrder, TooMany, NoSuchTransition, Uneven, OutTooShort, OddBytes, Other}
+pub use Rattle.paper.specs.declared.Refusal.{Refusal}
 
 abbrev pub fault_number : Fault → ℕ
 -- a count or the rest of its section is absent
@@ -44,15 +44,17 @@ fault_number Uneven = 18
 fault_number OutTooShort = 16
 -- the lister was given an odd number of bytes
 fault_number OddBytes = 17
+-- a number of no reason
+fault_number (Other number) = number
 
--- all reasons, in the order of checks; and the one with a number (the last where there is none), since the cases name numbers
+-- all reasons, in the order of checks; and the one with a number, which has it whichever number it is (proofs/Faults.antt)
 abbrev pub faults : List Fault
 faults =
     Absent ∷ CountOutOfRange ∷ NameNotAbove ∷ ReadBeyond ∷ RowBroken ∷ ReadsLeft ∷ TooDeep ∷ EntryUnfit ∷ WordsFollow
     ∷ NoCandidate ∷ VariableMissed ∷ VariableTwice ∷ NoOrder ∷ TooMany ∷ NoSuchTransition ∷ Uneven ∷ OutTooShort ∷ OddBytes ∷ []
 
 abbrev pub fault_among : List Fault → ℕ → Fault
-fault_among [] number = OddBytes
+fault_among [] number = Other number
 fault_among (f ∷ fs) number = cond (eqb (fault_number f) number) f (fault_among fs number)
 
 abbrev pub fault_of : ℕ → Fault

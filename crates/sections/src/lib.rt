@@ -7,7 +7,7 @@ ghost use Rattle.sections.specs.Sections.{start, open_at, variables_at, reads_at
 
 use entries::{first_beyond, first_fall, first_unfit};
 use paper::limits::{MOST_CHOSEN, MOST_DEPTH, MOST_READS, MOST_ROWS, MOST_VARIABLES};
-use paper::refusals::{Fault, refusal_at};
+use paper::refusals::{Fault, refusal_for};
 use paper::{Label, Refusal};
 use rows::depth::first_deep;
 use rows::{first_broken, reads_taken};
@@ -52,18 +52,18 @@ impl Cursor {
         let at = self.at;
         let present = part.len();
         if present == 0 {
-            return Err(refusal_at(Fault::Absent, at + present));
+            return Err(refusal_for(Fault::Absent, at + present));
         }
         let count = usize::from(part[0]);
         if count < low {
-            return Err(refusal_at(Fault::CountOutOfRange, at));
+            return Err(refusal_for(Fault::CountOutOfRange, at));
         }
         if high < count {
-            return Err(refusal_at(Fault::CountOutOfRange, at));
+            return Err(refusal_for(Fault::CountOutOfRange, at));
         }
         let words = count * width;
         if present - 1 < words {
-            return Err(refusal_at(Fault::Absent, at + present));
+            return Err(refusal_for(Fault::Absent, at + present));
         }
         Ok(Cursor {
             at: at + 1 + words,
@@ -88,7 +88,7 @@ impl Cursor {
         let n = next.count;
         let k = first_fall(&part[1..], n);
         if k < n {
-            return Err(refusal_at(Fault::NameNotAbove, at + 1 + k));
+            return Err(refusal_for(Fault::NameNotAbove, at + 1 + k));
         }
         Ok(Cursor {
             variables: n,
@@ -109,7 +109,7 @@ impl Cursor {
         let n = next.count;
         let k = first_beyond(&part[1..], n, self.variables);
         if k < n {
-            return Err(refusal_at(Fault::ReadBeyond, at + 1 + k));
+            return Err(refusal_for(Fault::ReadBeyond, at + 1 + k));
         }
         Ok(Cursor { reads: n, ..next })
     }
@@ -127,15 +127,15 @@ impl Cursor {
         let rows = &part[1..];
         let broken = first_broken(rows, reads, self.variables, n);
         if broken.0 < n {
-            return Err(refusal_at(Fault::RowBroken, usize::from(broken.0)));
+            return Err(refusal_for(Fault::RowBroken, usize::from(broken.0)));
         }
         let taken = reads_taken(rows, n);
         if taken < self.reads {
-            return Err(refusal_at(Fault::ReadsLeft, taken));
+            return Err(refusal_for(Fault::ReadsLeft, taken));
         }
         let deep = first_deep(rows, n, Label(0), MOST_DEPTH);
         if deep.0 < n {
-            return Err(refusal_at(Fault::TooDeep, usize::from(deep.0)));
+            return Err(refusal_for(Fault::TooDeep, usize::from(deep.0)));
         }
         Ok(Cursor {
             rows: next.count,
@@ -155,7 +155,7 @@ impl Cursor {
         let n = next.count;
         let k = first_unfit(&part[1..], n, self.rows);
         if k < n {
-            return Err(refusal_at(Fault::EntryUnfit, k));
+            return Err(refusal_for(Fault::EntryUnfit, k));
         }
         opened
     }
@@ -167,7 +167,7 @@ impl Cursor {
     {
         let at = self.at;
         if at < present {
-            return Err(refusal_at(Fault::WordsFollow, at));
+            return Err(refusal_for(Fault::WordsFollow, at));
         }
         Ok(self)
     }

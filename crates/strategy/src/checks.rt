@@ -17,7 +17,7 @@ use marks::{MarkedFormula, marks_of};
 use net::{Choice, Net, note_net};
 use ordering::order;
 use paper::limits::{MOST_DEPTH, MOST_ROWS, MOST_TRANSITIONS, MOST_VARIABLES, SLOTS};
-use paper::refusals::{Fault, refusal_at};
+use paper::refusals::{Fault, refusal_for};
 use paper::{Label, Refusal};
 use rows::walk::Formula;
 use table::Layout;
@@ -29,7 +29,7 @@ fn counted(f: &MarkedFormula, l: Layout) -> Result<Accepted, Refusal>
 {
     let transitions = total_of(keys_of(f, Label(0), MOST_DEPTH));
     if MOST_TRANSITIONS < transitions {
-        return Err(refusal_at(Fault::TooMany, 0));
+        return Err(refusal_for(Fault::TooMany, 0));
     }
     Ok(Accepted {
         layout: l,
@@ -70,7 +70,7 @@ fn ordered(
     let placed = order(&following, &mut reported);
     if placed < chosen.len() {
         let k = lowest_on_cycle(&following);
-        return Err(refusal_at(Fault::NoOrder, usize::from(chosen[k])));
+        return Err(refusal_for(Fault::NoOrder, usize::from(chosen[k])));
     }
     let accepted = counted(f, l)?;
     out[..placed].copy_from_slice(&reported[..placed]);
@@ -90,7 +90,7 @@ pub fn judge_parts(
 {
     let k = first_stranger(rows, chosen);
     if k < chosen.len() {
-        return Err(refusal_at(Fault::NoCandidate, usize::from(chosen[k])));
+        return Err(refusal_for(Fault::NoCandidate, usize::from(chosen[k])));
     }
     let marks = marks_of(chosen);
     let formula = Formula {

@@ -5,7 +5,7 @@ use Rattle.sections.proofs.Cursor.end.Goals as goal
 
 pub returns-then-at-present : goal.returns-then-at-present
 unfolding end_at
-returns-then-at-present c = simp (c.refusal_at.ensures, lt-ltb _ _ c.if-at-present.true)
+returns-then-at-present c = simp (c.refusal_for.ensures, lt-ltb _ _ c.if-at-present.true)
 
 pub returns : goal.returns
 unfolding end_at

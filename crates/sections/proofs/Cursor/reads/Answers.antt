@@ -23,14 +23,14 @@ first_beyond-k-requires c = let o = opened_with _ _ _ _ _ c.open-opened.ensures 
 pub overflow_add-at-then-k-n : goal.overflow_add-at-then-k-n
 overflow_add-at-then-k-n c = let o = opened_with _ _ _ _ _ c.open-opened.ensures c.in-Ok.is in omega arith
 
-pub refusal_at-requires : goal.refusal_at-requires
-refusal_at-requires c = let o = opened_with _ _ _ _ _ c.open-opened.ensures c.in-Ok.is in omega arith
+pub refusal_for-requires : goal.refusal_for-requires
+refusal_for-requires c = let o = opened_with _ _ _ _ _ c.open-opened.ensures c.in-Ok.is in omega arith
 
 pub returns-then-k-n : goal.returns-then-k-n
 unfolding reads_at
 returns-then-k-n c =
     let o = opened_with _ _ _ _ _ c.open-opened.ensures c.in-Ok.is in
-    ap Err c.refusal_at.ensures ∙ some-bad o _ _ _ _ (simp rest at c.first_beyond-k.ensures) c.if-k-n.true
+    ap Err c.refusal_for.ensures ∙ some-bad o _ _ _ _ (simp rest at c.first_beyond-k.ensures) c.if-k-n.true
 
 pub returns : goal.returns
 unfolding reads_at

@@ -35,7 +35,7 @@ first_broken-broken-requires c =
 pub returns-then-broken-n : goal.returns-then-broken-n
 returns-then-broken-n c =
     let o = opened_with _ _ _ _ _ c.open-opened.ensures c.in-Ok.is in
-    ap Err c.refusal_at.ensures ∙ ap (halt RowBroken) c.from.ensures
+    ap Err c.refusal_for.ensures ∙ ap (halt RowBroken) c.from.ensures
     ∙ sym (some-broken _ _ _ _ o.came _ (simp rest at c.first_broken-broken.ensures) c.if-broken-n.true)
 
 pub reads_taken-taken-requires : goal.reads_taken-taken-requires
@@ -43,8 +43,8 @@ reads_taken-taken-requires c =
     let o = opened_with _ _ _ _ _ c.open-opened.ensures c.in-Ok.is in
     (omega (arith, entries-there o.fits), omega arith)
 
-pub refusal_at-requires-then-taken-self : goal.refusal_at-requires-then-taken-self
-refusal_at-requires-then-taken-self c =
+pub refusal_for-requires-then-taken-self : goal.refusal_for-requires-then-taken-self
+refusal_for-requires-then-taken-self c =
     let o = opened_with _ _ _ _ _ c.open-opened.ensures c.in-Ok.is in
     let taken = simp rest at c.reads_taken-taken.ensures in
     let few = taken-small (drop 1 c.args.part.now) (λ i. rw get_or-drop (c.type_inv.part (1 + i)).fits) c.in-Ok.next.count in
@@ -53,7 +53,7 @@ refusal_at-requires-then-taken-self c =
 pub returns-then-taken-self : goal.returns-then-taken-self
 returns-then-taken-self c =
     let o = opened_with _ _ _ _ _ c.open-opened.ensures c.in-Ok.is in
-    ap Err c.refusal_at-then-taken-self.ensures
+    ap Err c.refusal_for-then-taken-self.ensures
     ∙ sym (some_left _ _ _ _ o.came _ (simp rest at c.first_broken-broken.ensures) c.if-broken-n.false _ (simp rest at c.reads_taken-taken.ensures)
     c.if-taken-self.true)
 
@@ -68,7 +68,7 @@ returns-then-deep-n c =
     let o = opened_with _ _ _ _ _ c.open-opened.ensures c.in-Ok.is in
     let keep = none-broken _ _ _ _ _ c.first_broken-broken.ensures c.if-broken-n.false in
     let lowest = simp rest at (c.first_deep-deep.ensures ∙ top-deep _ _ _ _ (keep 0 o.fits.least)) in
-    ap Err c.refusal_at-then-deep-n.ensures ∙ ap (halt TooDeep) c.from-then-deep-n.ensures
+    ap Err c.refusal_for-then-deep-n.ensures ∙ ap (halt TooDeep) c.from-then-deep-n.ensures
     ∙ sym (some-deep _ _ _ _ o.came _ (simp rest at c.first_broken-broken.ensures) c.if-broken-n.false _ (simp rest at c.reads_taken-taken.ensures)
     c.if-taken-self.false _ lowest c.if-deep-n.true)
 

@@ -22,14 +22,14 @@ slice_bounds-first_unfit-start c = let o = opened_with _ _ _ _ _ c.open-opened.e
 pub first_unfit-k-requires : goal.first_unfit-k-requires
 first_unfit-k-requires c = let o = opened_with _ _ _ _ _ c.open-opened.ensures c.in-Ok.is in omega (arith, entries-there o.fits)
 
-pub refusal_at-requires : goal.refusal_at-requires
-refusal_at-requires c = let o = opened_with _ _ _ _ _ c.open-opened.ensures c.in-Ok.is in omega arith
+pub refusal_for-requires : goal.refusal_for-requires
+refusal_for-requires c = let o = opened_with _ _ _ _ _ c.open-opened.ensures c.in-Ok.is in omega arith
 
 pub returns-then-k-n : goal.returns-then-k-n
 unfolding strategy_at
 returns-then-k-n c =
     let o = opened_with _ _ _ _ _ c.open-opened.ensures c.in-Ok.is in
-    ap Err c.refusal_at.ensures ∙ ap (halt EntryUnfit) (sym (zero-add _)) ∙ some-bad o _ _ _ _ (simp rest at c.first_unfit-k.ensures) c.if-k-n.true
+    ap Err c.refusal_for.ensures ∙ ap (halt EntryUnfit) (sym (zero-add _)) ∙ some-bad o _ _ _ _ (simp rest at c.first_unfit-k.ensures) c.if-k-n.true
 
 pub returns : goal.returns
 unfolding strategy_at

@@ -8,7 +8,7 @@ use Rattle.strategy.proofs.checks.counted.Goals as goal
 pub returns-then-transitions-gt-MOST_TRANSITIONS : goal.returns-then-transitions-gt-MOST_TRANSITIONS
 returns-then-transitions-gt-MOST_TRANSITIONS c =
     let t = c in
-    counted-past _ (t.total_of-transitions.ensures ∙ ap total t.keys_of.ensures.0) c.if-transitions-gt-MOST_TRANSITIONS.true (ap Err c.refusal_at.ensures)
+    counted-past _ (t.total_of-transitions.ensures ∙ ap total t.keys_of.ensures.0) c.if-transitions-gt-MOST_TRANSITIONS.true (ap Err c.refusal_for.ensures)
 
 pub returns : goal.returns
 returns c =

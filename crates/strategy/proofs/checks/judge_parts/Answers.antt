@@ -10,7 +10,7 @@ use Rattle.strategy.proofs.checks.judge_parts.Goals as goal
 
 pub returns-then-k-chosen : goal.returns-then-k-chosen
 returns-then-k-chosen c =
-    stranger-refused _ c.requires.0 c.first_stranger-k.ensures _ c.if-k-chosen.true (ap Err (c.refusal_at.ensures ∙ ap (refusal NoCandidate) c.from.ensures))
+    stranger-refused _ c.requires.0 c.first_stranger-k.ensures _ c.if-k-chosen.true (ap Err (c.refusal_for.ensures ∙ ap (refusal NoCandidate) c.from.ensures))
 
 pub invariant_of-formula : goal.invariant_of-formula
 invariant_of-formula c = record { shaped = (walkable c.requires.0).shaped }

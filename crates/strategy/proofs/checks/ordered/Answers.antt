@@ -30,7 +30,7 @@ bounds-chosen-k c =
 pub returns-then-placed-chosen : goal.returns-then-placed-chosen
 returns-then-placed-chosen c =
     cycle-refused _ c.requires.0 c.order-placed.ensures _ c.if-placed-chosen.true c.lowest_on_cycle-k.ensures
-    (ap Err (c.refusal_at.ensures ∙ ap (refusal NoOrder) c.from.ensures))
+    (ap Err (c.refusal_for.ensures ∙ ap (refusal NoOrder) c.from.ensures))
 
 pub returns-in_err-accepted : goal.returns-in_err-accepted
 returns-in_err-accepted c =

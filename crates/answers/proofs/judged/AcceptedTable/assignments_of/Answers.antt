@@ -7,14 +7,14 @@ use Rattle.answers.proofs.Keeping.{assigned-as-key, assigned-front}
 use Rattle.answers.proofs.Answers.{absent, not-whole, whole}
 use Rattle.answers.proofs.judged.AcceptedTable.assignments_of.Goals as goal
 
-pub refusal_at-requires : goal.refusal_at-requires
-refusal_at-requires c = let n = few-transitions _ _ c.args.self.now.judged_so in omega arith
+pub refusal_for-requires : goal.refusal_for-requires
+refusal_for-requires c = let n = few-transitions _ _ c.args.self.now.judged_so in omega arith
 
 pub returns-then-count-k : goal.returns-then-count-k
-returns-then-count-k c = absent _ _ _ _ _ _ c.if-count-k.true (ap Err c.refusal_at.ensures)
+returns-then-count-k c = absent _ _ _ _ _ _ c.if-count-k.true (ap Err c.refusal_for.ensures)
 
-pub refusal_at-requires-then-assigned-l : goal.refusal_at-requires-then-assigned-l
-refusal_at-requires-then-assigned-l c =
+pub refusal_for-requires-then-assigned-l : goal.refusal_for-requires-then-assigned-l
+refusal_for-requires-then-assigned-l c =
     let n = few-transitions _ _ c.args.self.now.judged_so in
     omega (arith, c.if-count-k.false)
 
@@ -23,7 +23,7 @@ returns-then-assigned-l c =
     let e = c.args.self.now.judged_so in
     let put = rw c.basis-basis.ensures.table at c.put_assigned-assigned.ensures in
     not-whole _ _ _ _ _ _ c.if-count-k.false _ (assigned-as-key _ _ e _ c.if-count-k.false put) c.if-assigned-l.true
-    (ap Err c.refusal_at-then-assigned-l.ensures)
+    (ap Err c.refusal_for-then-assigned-l.ensures)
 
 pub returns : goal.returns
 returns c =

@@ -7,20 +7,20 @@ use Rattle.answers.proofs.Keeping.{front-is, front-there, front_length}
 use Rattle.answers.proofs.Answers.{absent, not-whole, whole}
 use Rattle.answers.proofs.judged.AcceptedTable.transition_of.Goals as goal
 
-pub refusal_at-requires : goal.refusal_at-requires
-refusal_at-requires c = let n = few-transitions _ _ c.args.self.now.judged_so in omega arith
+pub refusal_for-requires : goal.refusal_for-requires
+refusal_for-requires c = let n = few-transitions _ _ c.args.self.now.judged_so in omega arith
 
 pub returns-then-count-k : goal.returns-then-count-k
-returns-then-count-k c = absent _ _ _ _ _ _ c.if-count-k.true (ap Err c.refusal_at.ensures)
+returns-then-count-k c = absent _ _ _ _ _ _ c.if-count-k.true (ap Err c.refusal_for.ensures)
 
-pub refusal_at-requires-then-chosen-l : goal.refusal_at-requires-then-chosen-l
-refusal_at-requires-then-chosen-l c =
+pub refusal_for-requires-then-chosen-l : goal.refusal_for-requires-then-chosen-l
+refusal_for-requires-then-chosen-l c =
     let n = few-transitions _ _ c.args.self.now.judged_so in
     omega (arith, c.if-count-k.false)
 
 pub returns-then-chosen-l : goal.returns-then-chosen-l
 returns-then-chosen-l c =
-    not-whole _ _ _ _ _ _ c.if-count-k.false _ c.keep-chosen.ensures.many c.if-chosen-l.true (ap Err c.refusal_at-then-chosen-l.ensures)
+    not-whole _ _ _ _ _ _ c.if-count-k.false _ c.keep-chosen.ensures.many c.if-chosen-l.true (ap Err c.refusal_for-then-chosen-l.ensures)
 
 pub slice_bounds-kept-end : goal.slice_bounds-kept-end
 slice_bounds-kept-end c = (front-there _ _ c.args.self.now.judged_so _ c.if-count-k.false _ _ c.keep-chosen.ensures.bytes).0
