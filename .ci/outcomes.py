@@ -2,10 +2,11 @@
 """Holds the public functions of every library crate to their statements.
 
 Every `pub fn` and `pub extern "C" fn`, methods too, has one statement in its crate's proofs/OneOutcome.antt: any two outcomes that
-its own contract allows are equal. One that lends and can refuse has one more in proofs/RefusalLeaves.antt: a refusal leaves all
-that was lent as it was. A statement bears the function's name and is, word for word, of one form over the modules that the prover
-makes of that function. Programs have no public functions, and are passed over. The functions that C links, in crate nocturenc_c, have the
-clauses of those of the library that they call, in crate nocturenc.
+its own contract allows are equal. So has every method of an `impl Trait for Type` that names no private type, and the `eq` that a
+derive writes. One that lends and can refuse has one more in proofs/RefusalLeaves.antt: a refusal leaves all that was lent as it was. A
+statement bears the function's name and is, word for word, of one form over the modules that the prover makes of that function. Programs
+have no public functions, and are passed over. The functions that C links, in crate nocturenc_c, have the clauses of those of the library
+that they call, in crate nocturenc.
 """
 import glob
 import os
@@ -23,8 +24,10 @@ REFUSAL = {
     "u64": "Rattle.nocturenc.specs.Packed.IsPackedRefusal",
 }
 
-# The forms of a generic function's statements, over its type parameter and all that the parameter's bound brings. One that is handed
-# a test has one outcome where that test has one answer at each number.
+# The method that a derive writes, if any; of a derive that is not here `?` is asked for
+DERIVED = {"Clone": None, "Copy": None, "Drop": None, "Eq": None, "PartialEq": "eq"}
+
+# The forms of a generic function's statements, over its type parameter and all that the parameter's bound brings.
 COPIED = (
     "(T : denote.RattleType.RattleType) (L : denote.Param.Laws.Laws T) (C : denote.Param.Laws.IsCopy T)"
     " (K : Rattle.std.specs.declared.clone.Clone.Ghosts T.Denot) (D : mir.Syntax.Dict) → "
@@ -32,8 +35,7 @@ COPIED = (
 GENERIC = {
     ("OneOutcome", "entries::first_where"): (
         "(T : denote.RattleType.RattleType) (L : denote.Param.Laws.Laws T) (F : {contract}.F-Fn.Ghosts T) (d e f g : mir.Syntax.Dict)"
-        " → {said}.OneOutcome ({path}.Kinds.ps T L) ({path}.Kinds.r T L) (λ κs a. {path}.Reads.Pre T L F d e f g κs a"
-        " × Rattle.entries.specs.Inside.Asked.OneAnswer (({contract}.F-Fn.words T F).post a.1.0) a.0) ({path}.Reads.Post T L F d e f g)"
+        " → {said}.OneOutcome ({path}.Kinds.ps T L) ({path}.Kinds.r T L) ({path}.Reads.Pre T L F d e f g) ({path}.Reads.Post T L F d e f g)"
     ),
     ("OneOutcome", "rows::walk::Formula::value_of"): (
         "(T U : denote.RattleType.RattleType) (t : denote.Param.Laws.Laws T) (u : denote.Param.Laws.Laws U)"
@@ -101,6 +103,28 @@ def told(result):
     return f"error {parts(whole.group(1))[-1].strip()}" if whole else result
 
 
+def owners(text):
+    """Each `impl` by the prover's name of it, whether its methods are public without a `pub`, and where it begins and ends. One of a
+    trait is named by the type, the trait and what the trait is for, as U8FromFault."""
+    private = set(re.findall(r"^\s*(?:struct|enum)\s+(\w+)", text, re.M))
+    found = []
+    for i in re.finditer(r"\bimpl\b(?:\s*<[^>]*>)?([^{;]*)\{", text):
+        trait, of_trait, owner = i[1].rpartition(" for ")
+        words = re.findall(r"\w+", re.sub(r"<[^>]*>", "", owner) + " " + trait)
+        name = "".join(w[0].upper() + w[1:] for w in words)
+        found.append((name, bool(of_trait) and private.isdisjoint(words), i.end() - 1, closing(text, i.end() - 1)))
+    return found
+
+
+def derived(crate, modules, text):
+    """The methods of the public types of a source file that a derive writes."""
+    for traits, name in re.findall(r"#\[derive\(([^)]*)\)\]\s*pub\s+(?:struct|enum)\s+(\w+)", text):
+        for trait in parts(traits):
+            method = DERIVED.get(trait.strip(), "?")
+            if method:
+                yield Function(crate, modules + [name + trait.strip()], method, False, ["&self", "&other"], "bool")
+
+
 def public_functions(crate):
     """The public functions of a crate's source, in their order."""
     found = []
@@ -109,14 +133,16 @@ def public_functions(crate):
         modules = os.path.relpath(path, source)[: -len(".rt")].split(os.sep)
         modules = [] if modules == ["lib"] else modules
         text = without("//", path)
-        methods = [(i.group(1), i.end() - 1) for i in re.finditer(r"\bimpl\b[^{;]*?\b([A-Z]\w*)\s*(?:<[^>]*>)?\s*\{", text)]
-        methods = [(name, start, closing(text, start)) for name, start in methods]
-        for item in re.finditer(r'\bpub\b\s*(?:\([^)]*\)\s*)?(extern\s*""\s*)?fn\s+(\w+)\s*(?:<(?:->|[^<>])*>)?\s*\(', text):
+        impls = owners(text)
+        found.extend(derived(crate, modules, text))
+        for item in re.finditer(r'(\bpub\b\s*(?:\([^)]*\)\s*)?)?(extern\s*""\s*)?\bfn\s+(\w+)\s*(?:<(?:->|[^<>])*>)?\s*\(', text):
+            around = [(name, public) for name, public, start, stop in impls if start < item.start() < stop]
+            if not item[1] and not any(public for _, public in around):
+                continue
             end = closing(text, item.end() - 1)
             result = re.match(r"\s*->\s*([^\n{]+)", text[end + 1 :])
-            owner = [name for name, start, stop in methods if start < item.start() < stop]
-            parameters = parts(text[item.end() : end])
-            found.append(Function(crate, modules + owner, item.group(2), bool(item.group(1)), parameters, result and told(result.group(1).strip())))
+            owner = [name for name, _ in around]
+            found.append(Function(crate, modules + owner, item[3], bool(item[2]), parts(text[item.end() : end]), result and told(result[1].strip())))
     return found
 
 

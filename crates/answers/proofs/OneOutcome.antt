@@ -11,8 +11,12 @@ use Rattle.marks.proofs.OneOutcome.{one-marking}
 use Rattle.keys.specs.declared.Distinct.{Distinct}
 use Rattle.answers.specs.declared.numbered.Basis.{Basis}
 use Rattle.answers.specs.Inside.Judged.{Based}
+use Rattle.answers.proofs.CountsFromAccepted as counts
 use Rattle.answers.proofs.judged.AcceptedTable as table
 use Rattle.answers.proofs.numbered.Basis as basis
+
+pub countsfromaccepted-from : OneOutcome counts.from.Kinds.ps counts.from.Kinds.r counts.from.Reads.Pre counts.from.Reads.Post
+countsfromaccepted-from κs a pre x y v w p q = (by-equation p q, refl)
 
 pub acceptedtable-transition-of :
     OneOutcome table.transition_of.Kinds.ps table.transition_of.Kinds.r table.transition_of.Reads.Pre table.transition_of.Reads.Post

@@ -4,14 +4,15 @@
 
 ghost use Rattle.std.specs.Prelude.{◌≡◌, ℕ, ◌≤◌, ◌<◌, ◌||◌, length};
 ghost use Rattle.entries.specs.First.{first};
-ghost use Rattle.entries.specs.Inside.Asked.{FirstAsked};
+ghost use Rattle.entries.specs.Inside.Asked.{FirstAsked, OneAnswer};
 ghost use Rattle.entries.specs.Entries.{falls, ascend, beyond};
 
 use paper::{Label, Variable};
 
 // The lowest k below n with `is_bad(k)`, or n.
 pub fn first_where<F: Fn(usize) -> bool>(n: usize, is_bad: F) -> usize
-    requires { (k : ℕ) → k < n → F.pre is_bad k }
+    requires callable { (k : ℕ) → k < n → F.pre is_bad k }
+    requires one_answer { OneAnswer (F.post is_bad) n }
     ensures { FirstAsked (F.post is_bad) n result }
 {
     for k in 0..n {

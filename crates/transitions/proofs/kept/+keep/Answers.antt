@@ -55,7 +55,7 @@ loop-child-preserved t c =
     let next = c.in-Some.ensures.steps in
     let s = c.loop-child.invariant in
     record {
-      same = next.2 ∙ s.same;
+      same = ap (λ rows. rows.now) next.2 ∙ s.same;
       taking =
           taking-turns s.taking next.0 (rw next.1 at c.keys_of-keys.ensures.0) c.total_of.ensures
           c.turn_of-turn.ensures (elim c.match-turn.branch [
@@ -68,4 +68,4 @@ pub returns-in-False : goal.returns-in-False
 returns-in-False t c = rw c.from-i.ensures (set-alone c.if-left-eq0.false c.form_of-form.ensures c.in-False.is)
 
 pub returns-in-None : goal.returns-in-None
-returns-in-None t c = taking-ends c.loop-child.invariant.taking c.in-None.ensures.steps
+returns-in-None t c = taking-ends c.loop-child.invariant.taking c.in-None.ensures.steps.0

@@ -30,7 +30,7 @@ loop-child-preserved g t c =
     let next = c.in-Some.ensures.steps in
     let s = c.loop-child.invariant in
     record {
-      same = next.2 ∙ s.same;
+      same = ap (λ rows. rows.now) next.2 ∙ s.same;
       walking = walk-turns s.walking next.0 next.1 c.value_of.ensures c.join-acc.ensures next.3 (rw s.same at next.4);
     }
 
@@ -43,4 +43,4 @@ returns-in-Candidate g t c =
     value-candidate _ _ c.if-left-eq0.false c.form_of-form.ensures c.in-Candidate.is (rw (← c.arg_of.ensures) c.at_candidate.ensures)
 
 pub returns-in-None : goal.returns-in-None
-returns-in-None g t c = walk_ends c.loop-child.invariant.walking c.in-None.ensures.steps
+returns-in-None g t c = walk_ends c.loop-child.invariant.walking c.in-None.ensures.steps.0
