@@ -16,7 +16,7 @@ use transitions::kept::mark_kept;
 
 // What every transition of a table is worked out from: the marks of the chosen labels, and the keys of the formula. A caller that asks
 // for many transitions works it out once, and lends it. The marks are an array of fixed length: there is no heap.
-#[derive(Drop)]
+#[derive(Clone, Copy)]
 pub struct Basis<'a> {
     pub table: AcceptedTable<'a>,
     pub marks: [u8; MOST_ROWS],
