@@ -24,12 +24,15 @@ pub struct Following<'a> {
     pub ghost ready: { Followable choice.rows.now reads.now choice.chosen.now net.now choice.n } by { Followable-prop },
 }
 
-// A spot that a finger points to: a star (label 0 for none), its next read, and the next index of the read before.
+// A spot that a finger points to: a star (label 0 for none), its next read, and the next index of the read before. Both are as wide as
+// what they enter arrays by, so that going from index to index widens nothing.
 #[derive(Clone, Copy)]
 struct Spot {
     star: Label,
-    read: u16,
-    next: u16,
+    read: usize,
+    next: usize,
+    ghost read_fits: { read < 65536 },
+    ghost next_fits: { next < 65536 },
 }
 
 // Labels, from `from` up to `to`, that share no branch with the one at hand.
@@ -58,28 +61,29 @@ impl<'a> Following<'a> {
     {
         let rows = self.choice.rows;
         let size = self.choice.chosen.len();
-        // cast, here and in `seek`: through From it is a call's result, and the answers did not close
-        let next = p.next as usize;
+        let next = p.next;
         if next < size {
+            // cast, here and below: through From it is a call's result, and the answers did not close
             return Spot {
-                next: self.net.next_of(next),
-                ..p
+                star: p.star,
+                read: p.read,
+                next: self.net.next_of(next) as usize,
             };
         }
-        let read = p.read as usize;
+        let read = p.read;
         if read < stop_of(rows, p.star) {
             let v = Variable(self.reads[read]);
             return Spot {
-                read: p.read + 1,
-                next: self.net.first_with(v),
-                ..p
+                star: p.star,
+                read: read + 1,
+                next: self.net.first_with(v) as usize,
             };
         }
         let guard = self.net.guard_of(p.star);
         Spot {
             star: guard,
-            read: from_of(rows, guard),
-            next: size as u16,
+            read: from_of(rows, guard) as usize,
+            next: size,
         }
     }
 
@@ -123,29 +127,32 @@ impl<'a> Following<'a> {
     }
 
     // The finger of j moved on from `finger` to the first spot whose index is before j and is new or on the path below
-    // position b, or to 0.
+    // position b, or to 0. It goes by a copy of what is followed, and stands in its callers: here tables with many guards spend their
+    // time.
+    #[inline(always)]
     pub fn seek(&self, mark: &[u16; SLOTS], b: usize, j: usize, finger: u64) -> Moved
         requires { Seekable (graph self.now) b j finger }
         ensures { Answered self.now.choice.rows.now self.now.reads.now self.now.choice.chosen.now self.now.choice.n (outside mark.now b)
             j finger result }
     {
+        let g = *self;
         let mut p = spot_of(finger);
         let mut known = Known {
             from: Label(0),
             to: Label(0),
         };
         while 0 < p.star.0 {
-            if self.look(mark, b, p.next as usize, j, &mut known) {
+            if g.look(mark, b, p.next, j, &mut known) {
                 return Moved {
                     finger: u64::from(p),
-                    index: p.next as usize,
+                    index: p.next,
                 };
             }
-            p = self.onward(p);
+            p = g.onward(p);
         }
         Moved {
             finger: 0,
-            index: self.choice.chosen.len(),
+            index: g.choice.chosen.len(),
         }
     }
 }
@@ -172,7 +179,7 @@ impl From<Spot> for u64 {
     ghost from_gives = { λ p f. f ≡ packed p.star.0 p.read p.next };
 
     fn from(p: Spot) -> u64 {
-        u64::from(p.star.0) * 4294967296 + u64::from(p.read) * 65536 + u64::from(p.next)
+        u64::from(p.star.0) * 4294967296 + (p.read as u64) * 65536 + p.next as u64
     }
 }
 
@@ -184,8 +191,8 @@ fn spot_of(f: u64) -> Spot
     let star = (f / 4294967296) as u16;
     Spot {
         star: Label(star),
-        read: (f / 65536 % 65536) as u16,
-        next: (f % 65536) as u16,
+        read: (f / 65536 % 65536) as usize,
+        next: (f % 65536) as usize,
     }
 }
 
@@ -198,8 +205,8 @@ pub fn start(c: &Choice, finger: &mut [u64; SLOTS])
         let star = Label(c.chosen[j] + 1);
         finger[j] = u64::from(Spot {
             star: star,
-            read: from_of(c.rows, star),
-            next: c.chosen.len() as u16,
+            read: from_of(c.rows, star) as usize,
+            next: c.chosen.len(),
         });
     }
 }

@@ -65,7 +65,9 @@ impl Waits {
         true
     }
 
-    // The lowest index from `from` on that is ready, if one is.
+    // The lowest index from `from` on that is ready, if one is. Apart from its caller: in one body with it, tables with many guards take
+    // longer.
+    #[inline(never)]
     fn lowest_ready(&mut self, g: &Following, placed: &[u16; SLOTS], from: usize) -> Option<usize>
         requires { (from ≤ length g.now.choice.chosen.now) × State (graph g.now) from placed.now self.old.finger self.old.wait self.old.low }
         ensures { Lowest (graph g.now) placed.now self.new.finger self.new.wait self.new.low result }
