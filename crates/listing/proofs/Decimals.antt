@@ -5,7 +5,7 @@ use native.Mathlib.Nat.{pow-suc}
 use native.Mathlib.Omega.{arith}
 use mathlib.Core.Path.{◌≡◌, refl, sym, ap, ◌∙◌}
 use mathlib.Core.Bool.{Bool, true, false}
-use mathlib.Core.List.{List, [], ◌∷◌, ◌++◌}
+use mathlib.Core.List.{List, [], ◌∷◌, ◌++◌, append_assoc}
 use lib.Dec.{ltb}
 use lib.ListN.{length, length-append}
 use borrow.Author.Tests.{ltb-true, ltb-false, lt-ltb, le-ltb}
@@ -51,11 +51,30 @@ decimal-more (suc m) h =
     digits_more m (suc m) h
     ∙ ap (λ (d : List ℕ). d ++ (48 + suc m % 10) ∷ []) (digits-steady m (suc m / 10) (suc m / 10) (omega arith) (omega arith))
 
+-- two digits, and the last two behind those of the hundredth
+pub decimal-two : (n : ℕ) → 10 ≤ n → n < 100 → decimal n ≡ (48 + n / 10) ∷ (48 + n % 10) ∷ []
+decimal-two n h k = decimal-more n h ∙ ap (λ (d : List ℕ). d ++ (48 + n % 10) ∷ []) (decimal-small (n / 10) (omega arith))
+
+pub decimal-last_two : (n : ℕ) → 100 ≤ n → decimal n ≡ decimal (n / 100) ++ (48 + n % 100 / 10) ∷ (48 + n % 100 % 10) ∷ []
+decimal-last_two n h =
+    decimal-more n (omega arith)
+    ∙ ap (λ (d : List ℕ). d ++ (48 + n % 10) ∷ [])
+    (decimal-more (n / 10) (omega arith) ∙ ap (λ (m : ℕ). decimal m ++ (48 + n / 10 % 10) ∷ []) (omega arith))
+    ∙ append_assoc (decimal (n / 100)) ((48 + n / 10 % 10) ∷ []) ((48 + n % 10) ∷ [])
+    ∙ ap (λ (m : ℕ). decimal (n / 100) ++ (48 + m) ∷ (48 + n % 10) ∷ []) (omega arith)
+    ∙ ap (λ (m : ℕ). decimal (n / 100) ++ (48 + n % 100 / 10) ∷ (48 + m) ∷ []) (omega arith)
+
 pub length-small : (n : ℕ) → n < 10 → length (decimal n) ≡ 1
 length-small n h = ap length (decimal-small n h)
 
 pub length_more : (n : ℕ) → 10 ≤ n → length (decimal n) ≡ length (decimal (n / 10)) + 1
 length_more n h = ap length (decimal-more n h) ∙ length-append (decimal (n / 10)) ((48 + n % 10) ∷ [])
+
+pub length-two : (n : ℕ) → 10 ≤ n → n < 100 → length (decimal n) ≡ 2
+length-two n h k = ap length (decimal-two n h k)
+
+pub length-last_two : (n : ℕ) → 100 ≤ n → length (decimal n) ≡ length (decimal (n / 100)) + 2
+length-last_two n h = ap length (decimal-last_two n h) ∙ length-append (decimal (n / 100)) ((48 + n % 100 / 10) ∷ (48 + n % 100 % 10) ∷ [])
 
 pub some-digit : (n : ℕ) → 0 < length (decimal n)
 some-digit n = split n 10 (λ h. omega (arith, length-small n h)) (λ h. omega (arith, length_more n h))

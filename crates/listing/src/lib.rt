@@ -1,7 +1,7 @@
 // The lines of a listing (document 01, "A listing, whole"), put into a lent buffer by a pen, one piece behind the other.
 #![tactic(auto)]
 
-ghost use Rattle.std.specs.Prelude.{◌+◌, ◌*◌, ◌^◌, ◌≤◌, ◌<◌, length, [], ◌∷◌};
+ghost use Rattle.std.specs.Prelude.{◌+◌, ◌*◌, ◌/◌, ◌%◌, ◌^◌, ◌≤◌, ◌<◌, length, [], ◌∷◌};
 ghost use Rattle.marks.specs.Marks.{positions_from, positions};
 ghost use Rattle.listing.specs.Text.{decimal, field, fields, accepted_line, order_line, transition_line, refused_line};
 ghost use Rattle.listing.specs.Inside.Placed.{Room, Puts};
@@ -35,7 +35,16 @@ impl<'a> Pen<'a> {
         self.at = after;
     }
 
-    // A number in decimal: the digits of its tenth, and its last one. No contract of the library says what `write!` puts into a slice.
+    // The two digits of a number below a hundred, a 0 first where it has one.
+    fn two_digits(&mut self, n: u32)
+        requires { (n < 100) × Room self.old 2 }
+        ensures { Puts self.old ((48 + n / 10) ∷ (48 + n % 10) ∷ []) self.new }
+    {
+        self.byte(b'0' + (n / 10) as u8);
+        self.byte(b'0' + (n % 10) as u8);
+    }
+
+    // A number in decimal: the digits of its hundredth, and its last two. No contract of the library says what `write!` puts into a slice.
     pub fn decimal(&mut self, n: u32)
         requires { Room self.old (length (decimal n)) }
         ensures put { Puts self.old (decimal n) self.new }
@@ -45,8 +54,12 @@ impl<'a> Pen<'a> {
             self.byte(b'0' + n as u8);
             return;
         }
-        self.decimal(n / 10);
-        self.byte(b'0' + (n % 10) as u8);
+        if n < 100 {
+            self.two_digits(n);
+            return;
+        }
+        self.decimal(n / 100);
+        self.two_digits(n % 100);
     }
 
     // A space and a number: eleven bytes at most, and six for a label.
