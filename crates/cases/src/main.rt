@@ -16,7 +16,7 @@ mod scan; // fields and numbers
 mod words; // the words of a table, as a line writes them
 mod write; // printing
 
-ghost use Rattle.std.specs.Prelude.{◌≤◌, IfErr, length};
+ghost use Rattle.std.specs.Prelude.{◌≤◌, length};
 
 use reading::read_full;
 use requests::Request;
@@ -26,24 +26,25 @@ use words::Words;
 // The longest list, and one byte more.
 const LIST: usize = 262144;
 
-// Reads a request, and its words into `words`; where that fails, gives the text from there on.
-fn read_case<'a>(text: &'a [u8], words: &mut Words) -> Result<Request, &'a [u8]>
-    ensures { IfErr result (λ r. length r.now ≤ length text.now) }
+// Makes a request with the words of a body.
+fn run_words(rt: &impl Print, line: &[u8], request: Request, body: &[u8])
+    requires { length body.now ≤ length line.now }
 {
-    let here = skip_gap(text);
-    let (request, body) = Request::parse(here).ok_or(here)?;
-    words.lay_out(body)?;
-    Ok(request)
+    let mut words = Words::new();
+    match words.lay_out(body) {
+        Ok(()) => request.run(rt, words.laid()),
+        Err(rest) => write::malformed(rt, line.len() - rest.len() + 1),
+    }
 }
 
-// Runs the case of a line whose name is read; `text` is behind it.
+// Runs the case of a line whose name is read; `text` is behind it. The request comes first: a line that makes none needs no room for words.
 fn run_case(rt: &impl Print, line: &[u8], text: &[u8])
     requires { length text.now ≤ length line.now }
 {
-    let mut words = Words::new();
-    match read_case(text, &mut words) {
-        Ok(request) => request.run(rt, words.laid()),
-        Err(rest) => write::malformed(rt, line.len() - rest.len() + 1),
+    let here = skip_gap(text);
+    match Request::parse(here) {
+        Some((request, body)) => run_words(rt, line, request, body),
+        None => write::malformed(rt, line.len() - here.len() + 1),
     }
 }
 

@@ -1,8 +1,6 @@
 // What a text begins with: a gap between two fields, a field, or a number; and what is behind it.
 ghost use Rattle.std.specs.Prelude.{◌<◌, ◌≤◌, IfSome, length};
 
-use std::str;
-
 // Whether a byte parts two fields.
 fn is_gap(b: u8) -> bool {
     matches!(b, b' ' | b',' | b';')
@@ -24,13 +22,20 @@ pub fn split_field(text: &[u8]) -> (&[u8], &[u8])
     text.split_at(field.unwrap_or(text.len()))
 }
 
-// The number that a text begins with, all its digits, and what is behind it; none where there are no digits or they do not fit.
+// The number that a text begins with, all its digits, and what is behind it; none where there are no digits or they do not fit. Digit by
+// digit: by the library they are read three times, for their end, as text and as a number, and numbers are most of a list.
 pub fn number(text: &[u8]) -> Option<(usize, &[u8])>
     ensures { IfSome result (λ r. length r.1.now < length text.now) }
 {
-    let digits = text.iter().position(|b| !b.is_ascii_digit());
-    let (digits, rest) = text.split_at(digits.unwrap_or(text.len()));
-    let n = str::from_utf8(digits).ok()?.parse().ok()?;
+    let mut n: usize = 0;
+    let mut rest = text;
+    while let [digit @ b'0'..=b'9', more @ ..] = rest {
+        n = n.checked_mul(10)?.checked_add(usize::from(digit - b'0'))?;
+        rest = more;
+    }
+    if rest.len() == text.len() {
+        return None;
+    }
     Some((n, rest))
 }
 

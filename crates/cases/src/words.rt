@@ -57,14 +57,20 @@ impl Words {
         Some(())
     }
 
-    // Puts the words from the first to the last, one at least.
+    // Puts the words from the first to the last, one at least, if there is room for all.
     fn push_range(&mut self, first: u16, last: u16) -> Option<()> {
         if last < first {
             return None;
         }
-        for word in first..=last {
-            self.push(word)?;
+        let count = self.count;
+        let more = usize::from(last - first) + 1;
+        if ROOM - count < more {
+            return None;
         }
+        for i in 0..more {
+            self.room[count + i] = first + i as u16;
+        }
+        self.count = count + more;
         Some(())
     }
 
