@@ -40,8 +40,10 @@ impl<'a> Pen<'a> {
         requires { (n < 100) × Room self.old 2 }
         ensures { Puts self.old ((48 + n / 10) ∷ (48 + n % 10) ∷ []) self.new }
     {
-        self.byte(b'0' + (n / 10) as u8);
-        self.byte(b'0' + (n % 10) as u8);
+        let at = self.at;
+        self.buf[at] = b'0' + (n / 10) as u8;
+        self.buf[at + 1] = b'0' + (n % 10) as u8;
+        self.at = at + 2;
     }
 
     // A number in decimal: the digits of its hundredth, and its last two. No contract of the library says what `write!` puts into a slice.
