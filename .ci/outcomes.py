@@ -27,15 +27,21 @@ REFUSAL = {
 # The method that a derive writes, if any; of a derive that is not here `?` is asked for
 DERIVED = {"Clone": None, "Copy": None, "Drop": None, "Eq": None, "PartialEq": "eq"}
 
-# The forms of a generic function's statements, over its type parameter and all that the parameter's bound brings.
+# The forms of a generic function's statements, over its type parameter and all that the parameter's bound brings. One that takes any test
+# has one outcome where that test has one answer at each number.
 COPIED = (
     "(T : denote.RattleType.RattleType) (L : denote.Param.Laws.Laws T) (C : denote.Param.Laws.IsCopy T)"
     " (K : Rattle.std.specs.declared.clone.Clone.Ghosts T.Denot) (D : mir.Syntax.Dict) → "
 )
+TESTED = "(T : denote.RattleType.RattleType) (L : denote.Param.Laws.Laws T) (F : {contract}.F-Fn.Ghosts T) (d e f g : mir.Syntax.Dict) → "
 GENERIC = {
+    ("OneOutcome", "entries::decided::first_decided"): (
+        f"{TESTED}{{said}}.OneOutcome ({{path}}.Kinds.ps T L) ({{path}}.Kinds.r T L)"
+        " ({path}.Reads.Pre T L F d e f g) ({path}.Reads.Post T L F d e f g)"
+    ),
     ("OneOutcome", "entries::first_where"): (
-        "(T : denote.RattleType.RattleType) (L : denote.Param.Laws.Laws T) (F : {contract}.F-Fn.Ghosts T) (d e f g : mir.Syntax.Dict)"
-        " → {said}.OneOutcome ({path}.Kinds.ps T L) ({path}.Kinds.r T L) ({path}.Reads.Pre T L F d e f g) ({path}.Reads.Post T L F d e f g)"
+        f"{TESTED}{{said}}.OneOutcome ({{path}}.Kinds.ps T L) ({{path}}.Kinds.r T L) (λ κs a. {{path}}.Reads.Pre T L F d e f g κs a"
+        " × Rattle.entries.specs.Inside.Asked.OneAnswer (({contract}.F-Fn.words T F).post a.1.0) a.0) ({path}.Reads.Post T L F d e f g)"
     ),
     ("OneOutcome", "rows::walk::Formula::value_of"): (
         "(T U : denote.RattleType.RattleType) (t : denote.Param.Laws.Laws T) (u : denote.Param.Laws.Laws U)"
@@ -51,6 +57,9 @@ GENERIC = {
         " (λ κs a. (tt, (a.1.0.now, tt))) ({path}.Reads.Pre T L C K D) ({path}.Reads.Post T L C K D)"
     ),
 }
+
+# A statement of these that has a premise beside what the function requires, and which
+PREMISES = {("OneOutcome", "entries::first_where"): "where the test that it is handed has one answer at each number"}
 
 failures = []
 
@@ -275,6 +284,8 @@ def main():
         print(f"outcomes: excepted from {file}: {name} of {crate}: {reason}")
     print(f"outcomes: {refusing} public functions lend and can refuse, each leaving what was lent where it does{but_for('RefusalLeaves')}")
     print(f"outcomes: {exported} functions for C, with the clauses of the library's")
+    for (file, shown), premise in PREMISES.items():
+        print(f"outcomes: {file} of {shown}: {premise}")
     print(f"outcomes: {number} public functions of {owners} crates, each with one outcome{but_for('OneOutcome')}")
 
 

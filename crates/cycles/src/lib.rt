@@ -12,7 +12,7 @@ ghost use Rattle.cycles.specs.Inside.Path.{Walked, Best, Finished, Settled, Coun
 ghost use Rattle.fingers.specs.Inside.Spots.{reads_any};
 ghost use Rattle.paper.specs.Limits.{slots};
 
-use entries::first_where;
+use entries::decided::first_decided;
 use fingers::{Following, start, stop_of};
 use paper::limits::SLOTS;
 use paper::{Label, Variable};
@@ -193,7 +193,7 @@ fn is_before_itself(g: &Following, j: usize) -> bool
 fn first_self(g: &Following) -> usize
     ensures { Selfless (graph g.now) result }
 {
-    first_where(g.choice.chosen.len(), |j| is_before_itself(g, j))
+    first_decided(g.choice.chosen.len(), |j| is_before_itself(g, j))
 }
 
 // The lowest index on a cycle, or how many there are, as its definition has it.

@@ -5,15 +5,25 @@ use denote.RattleType.{RattleType}
 use denote.Param.Laws.{Laws}
 use Rattle.paper.specs.Outcome.{OneOutcome}
 use Rattle.paper.proofs.Outcome.{by-equation}
-use Rattle.entries.specs.contracts.first_where.F-Fn.{Ghosts}
+use Rattle.entries.specs.Inside.Asked.{OneAnswer}
+use Rattle.entries.specs.contracts.decided.first_decided.F-Fn.{Ghosts}
+use Rattle.entries.specs.contracts.first_where.F-Fn.{Ghosts as GhostsOfAny, words}
 use Rattle.entries.proofs.First.{first_once}
 use Rattle.entries.proofs as entries
+use Rattle.entries.proofs.decided as decided
 
 -- whatever the test is
-pub first-where : (T : RattleType) (L : Laws T) (F : Ghosts T) (d e f g : Dict)
+pub first-decided : (T : RattleType) (L : Laws T) (F : Ghosts T) (d e f g : Dict)
+    → OneOutcome (decided.first_decided.Kinds.ps T L) (decided.first_decided.Kinds.r T L)
+    (decided.first_decided.Reads.Pre T L F d e f g) (decided.first_decided.Reads.Post T L F d e f g)
+first-decided T L F d e f g κs a pre x y v w p q = (first_once pre.1.1 x y p q, refl)
+
+-- whatever the test is, where it has one answer at each number
+pub first-where : (T : RattleType) (L : Laws T) (F : GhostsOfAny T) (d e f g : Dict)
     → OneOutcome (entries.first_where.Kinds.ps T L) (entries.first_where.Kinds.r T L)
-    (entries.first_where.Reads.Pre T L F d e f g) (entries.first_where.Reads.Post T L F d e f g)
-first-where T L F d e f g κs a pre x y v w p q = (first_once pre.1.1 x y p q, refl)
+    (λ κs a. entries.first_where.Reads.Pre T L F d e f g κs a × OneAnswer ((words T F).post a.1.0) a.0)
+    (entries.first_where.Reads.Post T L F d e f g)
+first-where T L F d e f g κs a pre x y v w p q = (first_once pre.1 x y p q, refl)
 
 pub first-fall : OneOutcome entries.first_fall.Kinds.ps entries.first_fall.Kinds.r entries.first_fall.Reads.Pre entries.first_fall.Reads.Post
 first-fall κs a pre x y v w p q = (by-equation p q, refl)

@@ -3,7 +3,7 @@ ghost use Rattle.std.specs.Prelude.{◌≡◌, ℕ, ◌+◌, ◌*◌, ◌≤◌,
 ghost use Rattle.entries.specs.First.{first};
 ghost use Rattle.strategy.specs.Inside.Checks.{is_stranger};
 
-use entries::first_where;
+use entries::decided::first_decided;
 use paper::Label;
 use rows::form::{Form, form_of};
 
@@ -23,5 +23,5 @@ pub fn first_stranger(rows: &[u16], chosen: &[u16]) -> usize
     requires { (k : ℕ) → k < length chosen.now → 4 * get_or chosen.now k 0 + 4 ≤ length rows.now }
     ensures { result ≡ first (is_stranger rows.now chosen.now) (length chosen.now) }
 {
-    first_where(chosen.len(), |k| is_stranger(rows, chosen, k))
+    first_decided(chosen.len(), |k| is_stranger(rows, chosen, k))
 }

@@ -5,4 +5,4 @@ use Rattle.cycles.proofs.Steps.{selfless}
 use Rattle.cycles.proofs.first_self.Goals as goal
 
 pub returns : goal.returns
-returns c = selfless _ _ (first_by _ c.first_where.ensures (λ k b h a. search rules))
+returns c = selfless _ _ (first_by _ c.first_decided.ensures (λ k b h a. search rules))

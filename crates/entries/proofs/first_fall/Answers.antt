@@ -4,4 +4,4 @@ use Rattle.entries.proofs.First.{first_by}
 use Rattle.entries.proofs.first_fall.Goals as goal
 
 pub returns : goal.returns
-returns c = first_by _ c.first_where.ensures (λ k b h a. search rules)
+returns c = first_by _ c.first_decided.ensures (λ k b h a. search rules)
