@@ -34,7 +34,7 @@ judge-is-answer words r p = go (judged_of words) (judged-gives words) p
   where
     go : (j : Result Accepted Refusal) → AnswerGives j → AnswerPacked (judge_answer j) r → IsAnswer JudgeGives r
     go (Ok a) g p = inl p.read_so.no_refusal
-    go (Err x) g p = is-refusal JudgeGives x r p.read_so g
+    go (Err x) g p = is-refusal JudgeGives x r p.read_so g.0
 
 -- an outcome that fills, or refuses with a number that the request gives
 abbrev OutcomeGives : (ℕ → Type 0) → Outcome ℕ → Type 0
@@ -66,7 +66,7 @@ module _ (words : List ℕ) (Gives : ℕ → Type 0) (more : (n : ℕ) → Judge
   judged-outcome next after = go (judged_of words) (judged-gives words)
     where
       go : (j : Result Accepted Refusal) → AnswerGives j → OutcomeGives Gives (outcome_of j next)
-      go (Err x) g = more (fault_number x.fault) g
+      go (Err x) g = more (fault_number x.fault) g.0
       go (Ok a) g = after a.layout a.transitions
 
   -- a request whose outcome is the judgement's refusal, or what follows it

@@ -1,5 +1,6 @@
 pub mod Contracts
 pub mod RefusalNumbers
+pub mod Reasons
 pub mod Answered
 pub mod Judged
 pub mod Filled

@@ -4,3 +4,4 @@ pub mod Cases
 pub mod SectionCases
 pub mod RowCases
 pub mod RequestCases
+pub mod Reasons
