@@ -2,11 +2,11 @@
 """Holds the public functions of every library crate to their statements.
 
 Every `pub fn` and `pub extern "C" fn`, methods too, has one statement in its crate's proofs/OneOutcome.antt: any two outcomes that
-its own contract allows are equal. So has every method of an `impl Trait for Type` that names no private type, and the `eq` that a
-derive writes. One that lends and can refuse has one more in proofs/RefusalLeaves.antt: a refusal leaves all that was lent as it was. A
-statement bears the function's name and is, word for word, of one form over the modules that the prover makes of that function. Programs
-have no public functions, and are passed over. The functions that C links, in crate nocturenc_c, have the clauses of those of the library
-that they call, in crate nocturenc.
+its own contract allows are equal, under a premise where PREMISES has one. So has every method of an `impl Trait for Type` that names no
+private type, and the `eq` that a derive writes. One that lends and can refuse has one more in proofs/RefusalLeaves.antt: a refusal leaves
+all that was lent as it was. A statement bears the function's name and is, word for word, of one form over the modules that the prover
+makes of that function. Programs have no public functions, and are passed over. The functions that C links, in crate nocturenc_c, have the
+clauses of those of the library that they call, in crate nocturenc.
 """
 import glob
 import os
@@ -264,6 +264,12 @@ def but_for(file):
     return f", but for {excepted}" if excepted else ""
 
 
+def under_premises(file):
+    """How many have a premise beside what they require."""
+    premises = sum(p[0] == file for p in PREMISES)
+    return f", {premises} of them under a premise" if premises else ""
+
+
 def main():
     crates = sorted(os.path.basename(c) for c in glob.glob("crates/*"))
     libraries = [c for c in crates if os.path.exists(f"crates/{c}/src/lib.rt")]
@@ -286,7 +292,7 @@ def main():
     print(f"outcomes: {exported} functions for C, with the clauses of the library's")
     for (file, shown), premise in PREMISES.items():
         print(f"outcomes: {file} of {shown}: {premise}")
-    print(f"outcomes: {number} public functions of {owners} crates, each with one outcome{but_for('OneOutcome')}")
+    print(f"outcomes: {number} public functions of {owners} crates, each with one outcome{under_premises('OneOutcome')}{but_for('OneOutcome')}")
 
 
 if __name__ == "__main__":

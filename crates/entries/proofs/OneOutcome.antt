@@ -1,4 +1,5 @@
--- For each public function, any two outcomes that its contract allows are equal.
+-- For each public function, any two outcomes that its contract allows are equal; of `first_where` where its test has one answer at each
+-- number.
 use mathlib.Core.Path.{refl}
 use mir.Syntax.{Dict}
 use denote.RattleType.{RattleType}

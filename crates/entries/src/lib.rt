@@ -14,8 +14,8 @@ ghost use Rattle.entries.specs.Entries.{falls, ascend, beyond};
 use decided::first_decided;
 use paper::{Label, Variable};
 
-// The lowest k below n with `is_bad(k)`, or n. The test is any: one that may answer a number in two ways, as its contract goes, is asked
-// once at each number, and may lead to two finds. It has a body of its own, since `first_decided` takes no such test.
+// The lowest k below n with `is_bad(k)`, or n. The test is any: where it may answer a number in two ways, as its contract goes, there may
+// be two finds. It has a body of its own, since `first_decided` takes no such test.
 pub fn first_where<F: Fn(usize) -> bool>(n: usize, is_bad: F) -> usize
     requires { (k : ℕ) → k < n → F.pre is_bad k }
     ensures { FirstAsked (F.post is_bad) n result }
