@@ -170,8 +170,8 @@ def brought(path, text):
     return names
 
 
-def statements(crate, file):
-    """The statements of a file of proofs, each with its type, every name in it written out."""
+def statements(crate, file, said_in=SAID):
+    """The statements of a file of proofs, by a word of `said_in`, each with its type, every name in it written out."""
     path = f"crates/{crate}/proofs/{file}.antt"
     if not os.path.exists(path):
         return {}
@@ -182,7 +182,7 @@ def statements(crate, file):
     found = {}
     for name, said in re.findall(r"^pub (\S+) :(.*(?:\n[ ].*)*)", text, re.M):
         whole = re.sub(r"(?<![\w.-])[\w-]+", lambda m: names.get(m.group(0), m.group(0)), " ".join(said.split()))
-        if f"{SAID}." in whole:
+        if f"{said_in}." in whole:
             found[name.replace("_", "-")] = whole
     return found
 

@@ -1,6 +1,7 @@
 pub mod Contracts
 pub mod RefusalNumbers
 pub mod Reasons
+pub mod ByReason
 pub mod Answered
 pub mod Judged
 pub mod Filled

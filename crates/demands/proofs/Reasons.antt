@@ -1,14 +1,17 @@
--- A library function that refuses does so for a reason (specs/Reasons.antt): each refusal is made with a reason's name, or handed on.
+-- The definitions that contracts cite refuse for a reason (specs/Reasons.antt): each refusal is made with a reason's name, or handed on.
 use Prim.Native.Nat.{ℕ, ◌/◌}
 use mathlib.Core.Path.{◌≡◌, refl, sym, subst}
-use mathlib.Core.Bool.{Bool, true, false, cond}
+use mathlib.Core.Bool.{Bool, true, false, cond, false≢true}
 use mathlib.Core.List.{List}
 use lib.Dec.{ltb, leb, eqb}
 use lib.ListN.{length}
 use Rattle.std.specs.Prelude.{Result, Ok, Err}
 use Rattle.paper.specs.declared.Refusal.{Refusal}
-use Rattle.paper.specs.declared.refusals.Fault.TheVariants.{NoSuchTransition, OddBytes, OutTooShort, Uneven}
-use Rattle.paper.specs.Refusals.{refusal}
+use Rattle.paper.specs.declared.refusals.Fault.{Fault}
+use Rattle.paper.specs.declared.refusals.Fault.TheVariants.{Absent, CountOutOfRange, NameNotAbove, ReadBeyond, RowBroken, ReadsLeft, TooDeep, EntryUnfit}
+use Rattle.paper.specs.declared.refusals.Fault.TheVariants.{WordsFollow, NoCandidate, VariableMissed, VariableTwice, NoOrder, TooMany, NoSuchTransition, Uneven}
+use Rattle.paper.specs.declared.refusals.Fault.TheVariants.{OutTooShort, OddBytes, Other}
+use Rattle.paper.specs.Refusals.{refusal, fault_number, fault_of}
 use Rattle.paper.specs.Limits.{most_reads, most_rows, most_variables}
 use Rattle.sections.specs.declared.Cursor.{Cursor}
 use Rattle.sections.specs.Sections.{start, open_at}
@@ -18,11 +21,14 @@ use Rattle.reader.specs.Reading.{behind_rows}
 use Rattle.filling.specs.declared.Length.{Length}
 use Rattle.filling.specs.Filling.{Outcome, refuses, fills, Fills, filled_of, unless_short}
 use Rattle.strategy.specs.declared.Accepted.{Accepted}
+use Rattle.cover.specs.declared.Uncovered.{Uncovered}
+use Rattle.cover.specs.declared.Uncovered.TheVariants.{Missed, Doubled}
+use Rattle.cover.specs.Inside.Masks.{refusal_of}
 use Rattle.strategy.specs.Verdict.{refused_at}
 use Rattle.strategy.specs.Judge.{judged_of, order_in}
 use Rattle.input.specs.Bytes.{are_odd, judged_bytes, words_of}
 use Rattle.answers.specs.Requests.{judge_of, judge_answer, key_of, kept_marks, assigned_of, outcome_of, of_transition, order_outcome}
-use Rattle.demands.specs.Reasons.{is_reason, ByReason, Reasons}
+use Rattle.demands.specs.Reasons.{is_reason, ForReason, ByReason, Reasons}
 use Rattle.demands.proofs.RefusalNumbers.{StepGives, AnswerGives, gives_then, open_gives, variables-give, reads-give, rows-give, strategy-gives, end-gives}
 use Rattle.demands.proofs.RefusalNumbers.{sections-give, judged-gives}
 
@@ -48,6 +54,10 @@ reader words =
 answer : (j : Result Accepted Refusal) → AnswerGives j → ByReason j
 answer (Ok a) g = tt
 answer (Err x) g = g.1
+
+uncovered : (x : Uncovered) → ForReason (refusal_of x)
+uncovered (Missed v) = refl
+uncovered (Doubled v) = refl
 
 judgement : (words : List ℕ) → ByReason (judged_of words)
 judgement words = answer (judged_of words) (judged-gives words)
@@ -109,8 +119,32 @@ numbered what words k room l count = go (leb count k) (eqb (length (key_of words
     go false true = short room (what words l k)
     go false false = refl
 
+told : (fault : Fault) → is_reason fault ≡ true → fault_of (fault_number fault) ≡ fault
+told (Other number) e = absurd (false≢true e)
+told Absent e = refl
+told CountOutOfRange e = refl
+told NameNotAbove e = refl
+told ReadBeyond e = refl
+told RowBroken e = refl
+told ReadsLeft e = refl
+told TooDeep e = refl
+told EntryUnfit e = refl
+told WordsFollow e = refl
+told NoCandidate e = refl
+told VariableMissed e = refl
+told VariableTwice e = refl
+told NoOrder e = refl
+told TooMany e = refl
+told NoSuchTransition e = refl
+told Uneven e = refl
+told OutTooShort e = refl
+told OddBytes e = refl
+
 pub reasons : Reasons
 reasons = record {
+  eighteen = refl;
+  told = told;
+  no_other = λ number. refl;
   section = λ part c low high width. step _ (open_gives part c low high width);
   variables = λ part c. step _ (variables-give part c);
   reads = λ part c. step _ (reads-give part c);
@@ -122,6 +156,7 @@ reasons = record {
   judgement = judgement;
   of_bytes = of_bytes;
   judge = judge;
+  uncovered = uncovered;
   fill = λ from lent left r f. filled _ (short (length lent) from) f;
   order = λ words lent left r f.
       filled _ (judged words (order_outcome words (length lent)) (λ l count. short (length lent) (order_in words l))) f;
