@@ -1,12 +1,15 @@
 #!/usr/bin/env python3
 """Holds the public functions that can refuse to their reasons.
 
-Every public function of a library whose answer is a refusal, or can be one, has one statement in crates/demands/proofs/ByReason.antt, under
-its crate's name and its own: whatever its own contract allows, a refusal is for a reason of document 01, and not for a number of none. The
-statements are of one form, word for word, as those that outcomes.py reads.
+Every public function of a library with a `Refusal` in its answer has one statement in crates/demands/proofs/ByReason.antt, under its crate's
+name and its own: whatever its own contract allows, a refusal is for a reason of document 01, and not for a number of none. The statements
+are of one form, word for word, as those that outcomes.py reads. So that a refusal shows in a function's head, it has no other name and
+stands in no type of a library; what the functions for C answer is a number, of which demand 1 speaks. A function of a private module, which
+no other crate can name, is passed over.
 """
 import glob
 import os
+import re
 import sys
 
 sys.dont_write_bytecode = True  # what the gate runs on stays as it is
@@ -15,14 +18,13 @@ import outcomes
 SAID = "Rattle.demands.specs.Reasons"
 FILE = "proofs/ByReason.antt"
 
-# What is said of an answer
+# What is said of an answer; of one that is not here `?` is asked for
 BY = {"error Refusal": f"{SAID}.ByReason", "Refusal": f"{SAID}.ForReason"}
 
 # A function without a statement, and why
 EXCEPTIONS = {
     "paper::refusals::refusal_for": "it gives the refusal that it is asked for",
     "paper::refusals::refusal_at": "it gives the refusal that it is asked for",
-    "strategy::checks::judge_parts": "its module is private, so that no other crate can name it",
 }
 
 GENERIC = {
@@ -39,26 +41,57 @@ def name_of(f):
     return f"{f.shown.split('::')[0]}-{f.statement}"
 
 
+def can_refuse(f):
+    """Whether the head says `Refusal`, or gives a result that goes on in the next line."""
+    result = f.result or ""
+    return bool(re.search(r"\bRefusal\b", result)) or any(result.count(a) != result.count(b) for a, b in ("<>", "()"))
+
+
+def is_private(f):
+    """Whether the function's module is its crate's own."""
+    crate, module = f.shown.split("::")[:2]
+    root = outcomes.without("//", f"crates/{crate}/src/lib.rt")
+    return bool(re.search(rf"^mod {module};", root, re.M)) and not re.search(rf"\bpub use [^;]*\b{module}\b", root)
+
+
+def hidden(crate):
+    """What hides a refusal in a crate's source."""
+    for path in sorted(glob.glob(f"crates/{crate}/src/**/*.rt", recursive=True)):
+        text = outcomes.without("//", path)
+        found = re.findall(r"\bRefusal\s+as\s+\w+|\btype\s+\w+[^;]*\bRefusal\b", text)
+        for head in re.finditer(r"\b(?:struct|enum|union)\s+\w+\s*(?:<[^>]*>)?\s*[{(]", text):
+            if re.search(r"\bRefusal\b", text[head.end() : outcomes.closing(text, head.end() - 1)]):
+                found.append(head[0])
+        for words in found:
+            yield f"{path}: a refusal under another name, or in a type: {' '.join(words.split())}"
+
+
 def main():
-    libraries = sorted(os.path.dirname(os.path.dirname(p)).split("/")[1] for p in glob.glob("crates/*/src/lib.rt"))
-    functions = [f for crate in libraries for f in outcomes.public_functions(crate) if f.result in BY]
+    libraries = sorted(p.split("/")[1] for p in glob.glob("crates/*/src/lib.rt"))
+    functions = [f for crate in libraries for f in outcomes.public_functions(crate) if can_refuse(f)]
+    passed_over = [f.shown for f in functions if is_private(f)]
+    asked = [f for f in functions if f.shown not in passed_over]
     stated = outcomes.statements("demands", "ByReason", SAID)
     failures = outcomes.failures
-    for f in functions:
+    failures.extend(line for crate in libraries for line in hidden(crate))
+    for f in asked:
         said = stated.pop(name_of(f), None)
-        form = GENERIC.get(f.shown, ONE).format(answers=f"{SAID}.Answers", path=f.path, by=BY[f.result])
+        form = GENERIC.get(f.shown, ONE).format(answers=f"{SAID}.Answers", path=f.path, by=BY.get(f.result, "?"))
         if (said is None) != (f.shown in EXCEPTIONS):
             failures.append(f"{f.shown} has {'a' if said else 'no'} statement in {FILE}")
         elif said not in (None, form):
             failures.append(f"{f.shown}: {FILE} has\n  {said}\nand not\n  {form}")
     failures.extend(f"{name} in {FILE} is of no such function" for name in stated)
-    failures.extend(f"{name} is excepted, and is no such function" for name in EXCEPTIONS.keys() - {f.shown for f in functions})
+    failures.extend(f"{name} is excepted, and is no such function" for name in EXCEPTIONS.keys() - {f.shown for f in asked})
     for line in failures:
         print(f"reasons: {line}")
+    if failures:
+        sys.exit(1)
+    for name in passed_over:
+        print(f"reasons: passed over, since its module is private: {name}")
     for name, reason in EXCEPTIONS.items():
         print(f"reasons: excepted: {name}: {reason}")
-    print(f"reasons: {len(functions) - len(EXCEPTIONS)} public functions can refuse, each for a reason")
-    sys.exit(1 if failures else 0)
+    print(f"reasons: {len(asked) - len(EXCEPTIONS)} public functions can refuse, each for a reason")
 
 
 if __name__ == "__main__":

@@ -1,9 +1,12 @@
 -- Each library function whose answer can be a refusal refuses for a reason, whatever its contract allows (specs/Reasons.antt).
-use mathlib.Core.Path.{sym, subst}
+use mathlib.Core.Path.{refl, sym, subst}
 use mir.Syntax.{Dict}
 use denote.RattleType.{RattleType}
 use denote.Param.Laws.{Laws, IsCopy}
 use Rattle.std.specs.declared.clone.Clone.{Ghosts}
+use Rattle.cover.specs.declared.Uncovered.{Uncovered}
+use Rattle.cover.specs.declared.Uncovered.TheVariants.{Missed, Doubled}
+use Rattle.cover.specs.Inside.Masks.{refusal_of}
 use Rattle.sections.proofs.Cursor as cursor
 use Rattle.table.proofs as table
 use Rattle.reader.proofs.plain as plain
@@ -44,11 +47,17 @@ pub reader-behind-rows :
 reader-behind-rows κs a pre x v p = subst ByReason (sym p) (reasons.reader _)
 
 pub filling-fill : (T : RattleType) (L : Laws T) (C : IsCopy T) (K : Ghosts T.Denot) (D : Dict)
-    → Answers (filling.fill.Kinds.ps T L C) (filling.fill.Kinds.r T L C) (λ κs. ByReason) (filling.fill.Reads.Pre T L C K D) (filling.fill.Reads.Post T L C K D)
+    → Answers (filling.fill.Kinds.ps T L C) (filling.fill.Kinds.r T L C) (λ κs. ByReason)
+    (filling.fill.Reads.Pre T L C K D) (filling.fill.Reads.Post T L C K D)
 filling-fill T L C K D κs a pre x v p = reasons.fill _ _ _ _ p
 
-pub cover-refusalfromuncovered-from : Answers uncovered.from.Kinds.ps uncovered.from.Kinds.r (λ κs. ForReason) uncovered.from.Reads.Pre uncovered.from.Reads.Post
-cover-refusalfromuncovered-from κs a pre x v p = subst ForReason (sym p) (reasons.uncovered _)
+pub cover-refusalfromuncovered-from :
+    Answers uncovered.from.Kinds.ps uncovered.from.Kinds.r (λ κs. ForReason) uncovered.from.Reads.Pre uncovered.from.Reads.Post
+cover-refusalfromuncovered-from κs a pre x v p = subst ForReason (sym p) (either a.0)
+  where
+    either : (u : Uncovered) → ForReason (refusal_of u)
+    either (Missed v) = refl
+    either (Doubled v) = refl
 
 pub strategy-judge : Answers strategy.judge.Kinds.ps strategy.judge.Kinds.r (λ κs. ByReason) strategy.judge.Reads.Pre strategy.judge.Reads.Post
 strategy-judge κs a pre x v p = subst ByReason (sym p) (reasons.judgement _)

@@ -33,7 +33,7 @@ is-accepted words r p z = go (judged_of words) refl p
   where
     go : (j : Result Accepted Refusal) → judged_of words ≡ j → AnswerPacked (judge_answer j) r → (a : Accepted) × (judged_of words ≡ Ok a)
     go (Ok a) e p = (a, e)
-    go (Err x) e p = absurd (false≢true (subst JudgeGives (sym p.read_so.number_is ∙ z) (refused-number words x e)))
+    go (Err x) e p = absurd (false≢true (subst JudgeGives (sym p.read_so.number_is ∙ z) (refused-number words x e).0))
 
 abbrev layout_or : Result Layout Refusal → Layout → Layout
 layout_or (Ok l) other = l

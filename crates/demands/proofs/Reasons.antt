@@ -21,14 +21,11 @@ use Rattle.reader.specs.Reading.{behind_rows}
 use Rattle.filling.specs.declared.Length.{Length}
 use Rattle.filling.specs.Filling.{Outcome, refuses, fills, Fills, filled_of, unless_short}
 use Rattle.strategy.specs.declared.Accepted.{Accepted}
-use Rattle.cover.specs.declared.Uncovered.{Uncovered}
-use Rattle.cover.specs.declared.Uncovered.TheVariants.{Missed, Doubled}
-use Rattle.cover.specs.Inside.Masks.{refusal_of}
 use Rattle.strategy.specs.Verdict.{refused_at}
 use Rattle.strategy.specs.Judge.{judged_of, order_in}
 use Rattle.input.specs.Bytes.{are_odd, judged_bytes, words_of}
 use Rattle.answers.specs.Requests.{judge_of, judge_answer, key_of, kept_marks, assigned_of, outcome_of, of_transition, order_outcome}
-use Rattle.demands.specs.Reasons.{is_reason, ForReason, ByReason, Reasons}
+use Rattle.demands.specs.Reasons.{is_reason, ByReason, Reasons}
 use Rattle.demands.proofs.RefusalNumbers.{StepGives, AnswerGives, gives_then, open_gives, variables-give, reads-give, rows-give, strategy-gives, end-gives}
 use Rattle.demands.proofs.RefusalNumbers.{sections-give, judged-gives}
 
@@ -54,10 +51,6 @@ reader words =
 answer : (j : Result Accepted Refusal) → AnswerGives j → ByReason j
 answer (Ok a) g = tt
 answer (Err x) g = g.1
-
-uncovered : (x : Uncovered) → ForReason (refusal_of x)
-uncovered (Missed v) = refl
-uncovered (Doubled v) = refl
 
 judgement : (words : List ℕ) → ByReason (judged_of words)
 judgement words = answer (judged_of words) (judged-gives words)
@@ -156,7 +149,6 @@ reasons = record {
   judgement = judgement;
   of_bytes = of_bytes;
   judge = judge;
-  uncovered = uncovered;
   fill = λ from lent left r f. filled _ (short (length lent) from) f;
   order = λ words lent left r f.
       filled _ (judged words (order_outcome words (length lent)) (λ l count. short (length lent) (order_in words l))) f;

@@ -136,5 +136,5 @@ judged-gives words = go (sections words) (sections-give words)
         let l = layout c.variables c.reads c.rows c.count in
         answers-give l (judge l.variables (formula_in words l) (proposal_in words l)) (judge-gives l.variables (formula_in words l) (proposal_in words l))
 
-pub refused-number : (words : List ℕ) (x : Refusal) → judged_of words ≡ Err x → JudgeGives (fault_number x.fault)
-refused-number words x e = (subst AnswerGives e (judged-gives words)).0
+pub refused-number : (words : List ℕ) (x : Refusal) → judged_of words ≡ Err x → JudgesBy x.fault
+refused-number words x e = subst AnswerGives e (judged-gives words)

@@ -18,8 +18,6 @@ use Rattle.table.specs.Table.{checked}
 use Rattle.reader.specs.Reading.{behind_rows}
 use Rattle.filling.specs.declared.Length.{Length}
 use Rattle.filling.specs.Filling.{Fills, unless_short}
-use Rattle.cover.specs.declared.Uncovered.{Uncovered}
-use Rattle.cover.specs.Inside.Masks.{refusal_of}
 use Rattle.strategy.specs.Judge.{judged_of}
 use Rattle.input.specs.Bytes.{judged_bytes}
 use Rattle.answers.specs.Requests.{judge_of, order_of, transition_of, assignments_of, transition_outcome, assignments_outcome}
@@ -56,11 +54,10 @@ pub record Reasons : Type 1 where
   pub end : (present : ℕ) (c : Cursor) → ByReason (end_at present c)
   pub table : (words : List ℕ) → ByReason (checked words)
   pub reader : (words : List ℕ) → ByReason (behind_rows words)
-  -- `judge` and `judge_into` (strategy), `judge_bytes` (input), `judge` (nocturenc); the refusal of what `covering_of` tells (cover)
+  -- `judge` and `judge_into` (strategy), `judge_bytes` (input), `judge` (nocturenc)
   pub judgement : (words : List ℕ) → ByReason (judged_of words)
   pub of_bytes : (bytes : List ℕ) → ByReason (judged_bytes bytes)
   pub judge : (words : List ℕ) → ByReason (judge_of words)
-  pub uncovered : (x : Uncovered) → ForReason (refusal_of x)
   -- `fill` (filling), and what fills a lent slice: `order`, `transition`, `assignments` (nocturenc), the last two of a caller that has judged too
   -- (answers)
   pub fill : {T : Type 0} (from lent left : List T) (r : Result Length Refusal) → Fills (unless_short (length lent) from) lent left r → ByReason r
