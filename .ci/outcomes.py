@@ -27,8 +27,7 @@ REFUSAL = {
 # The method that a derive writes, if any; of a derive that is not here `?` is asked for
 DERIVED = {"Clone": None, "Copy": None, "Drop": None, "Eq": None, "PartialEq": "eq"}
 
-# The forms of a generic function's statements, over its type parameter and all that the parameter's bound brings. One that takes any test
-# has one outcome where that test has one answer at each number.
+# The forms of a generic function's statements, over its type parameter and all that the parameter's bound brings.
 COPIED = (
     "(T : denote.RattleType.RattleType) (L : denote.Param.Laws.Laws T) (C : denote.Param.Laws.IsCopy T)"
     " (K : Rattle.std.specs.declared.clone.Clone.Ghosts T.Denot) (D : mir.Syntax.Dict) → "
@@ -58,8 +57,12 @@ GENERIC = {
     ),
 }
 
-# A statement of these that has a premise beside what the function requires, and which
+# Which of these has a premise beside what the function requires
 PREMISES = {("OneOutcome", "entries::first_where"): "where the test that it is handed has one answer at each number"}
+
+# A function's head up to its parameters: whether it is public, whether C links it, its name, with what it is generic over
+GENERICS = r"<(?:->|[^<>]|<(?:[^<>]|<[^<>]*>)*>)*>"
+FUNCTION = r'(\bpub\b\s*(?:\([^)]*\)\s*)?)?(?:\b(?:const|unsafe)\s+)*(extern\s*""\s*)?\bfn\s+(\w+)\s*(?:' + GENERICS + r")?\s*\("
 
 failures = []
 
@@ -72,9 +75,9 @@ def without(comment, path):
 
 
 class Function:
-    """A public function: the prover's modules of it, its statements' name, which parameters are lent to be changed, its result."""
+    """A public function: its modules, its statements' name, which parameters are lent to be changed, its result, its head without them."""
 
-    def __init__(self, crate, modules, name, exported, parameters, result):
+    def __init__(self, crate, modules, name, exported, parameters, result, head=""):
         whole = modules + [name]
         self.path = ".".join([f"Rattle.{crate}.proofs"] + whole)
         self.shown = "::".join([crate] + whole)
@@ -82,6 +85,7 @@ class Function:
         self.exported = exported
         self.lent = [bool(re.search(r"&\s*('\w+\s+)?mut\b", p)) for p in parameters]
         self.result = result
+        self.head = head
 
 
 def closing(text, start):
@@ -144,14 +148,15 @@ def public_functions(crate):
         text = without("//", path)
         impls = owners(text)
         found.extend(derived(crate, modules, text))
-        for item in re.finditer(r'(\bpub\b\s*(?:\([^)]*\)\s*)?)?(extern\s*""\s*)?\bfn\s+(\w+)\s*(?:<(?:->|[^<>])*>)?\s*\(', text):
+        for item in re.finditer(FUNCTION, text):
             around = [(name, public) for name, public, start, stop in impls if start < item.start() < stop]
             if not item[1] and not any(public for _, public in around):
                 continue
             end = closing(text, item.end() - 1)
             result = re.match(r"\s*->\s*([^\n{]+)", text[end + 1 :])
-            owner = [name for name, _ in around]
-            found.append(Function(crate, modules + owner, item[3], bool(item[2]), parts(text[item.end() : end]), result and told(result[1].strip())))
+            lent, answer = parts(text[item.end() : end]), result and told(result[1].strip())
+            head = item[0] + re.match(r"(?:(?!\b(?:requires|ensures)\b)[^{])*", text[end + 1 :])[0]
+            found.append(Function(crate, modules + [name for name, _ in around], item[3], bool(item[2]), lent, answer, head))
     return found
 
 
@@ -264,12 +269,6 @@ def but_for(file):
     return f", but for {excepted}" if excepted else ""
 
 
-def under_premises(file):
-    """How many have a premise beside what they require."""
-    premises = sum(p[0] == file for p in PREMISES)
-    return f", {premises} of them under a premise" if premises else ""
-
-
 def main():
     crates = sorted(os.path.basename(c) for c in glob.glob("crates/*"))
     libraries = [c for c in crates if os.path.exists(f"crates/{c}/src/lib.rt")]
@@ -290,9 +289,9 @@ def main():
         print(f"outcomes: excepted from {file}: {name} of {crate}: {reason}")
     print(f"outcomes: {refusing} public functions lend and can refuse, each leaving what was lent where it does{but_for('RefusalLeaves')}")
     print(f"outcomes: {exported} functions for C, with the clauses of the library's")
+    print(f"outcomes: {number} public functions of {owners} crates, each with one outcome{but_for('OneOutcome')}")
     for (file, shown), premise in PREMISES.items():
-        print(f"outcomes: {file} of {shown}: {premise}")
-    print(f"outcomes: {number} public functions of {owners} crates, each with one outcome{under_premises('OneOutcome')}{but_for('OneOutcome')}")
+        print(f"outcomes: in {file} {shown} has one {premise}")
 
 
 if __name__ == "__main__":

@@ -38,29 +38,50 @@ ONE = "{answers} {path}.Kinds.ps {path}.Kinds.r (λ κs. {by}) {path}.Reads.Pre 
 
 def name_of(f):
     """The name of a function's statement."""
-    return f"{f.shown.split('::')[0]}-{f.statement}"
+    return f"{f.shown.split('::')[0].replace('_', '-')}-{f.statement}"
+
+
+def of_refusal(f):
+    """Whether it stands in an impl of or for `Refusal`, where `Self` is one."""
+    return any(part.startswith("Refusal") for part in f.shown.split("::"))
 
 
 def can_refuse(f):
-    """Whether the head says `Refusal`, or gives a result that goes on in the next line."""
-    result = f.result or ""
-    return bool(re.search(r"\bRefusal\b", result)) or any(result.count(a) != result.count(b) for a, b in ("<>", "()"))
+    """Whether the head, but for the parameters, says `Refusal`."""
+    return bool(re.search(r"\bRefusal\b|\bSelf\b" if of_refusal(f) else r"\bRefusal\b", f.head))
+
+
+def texts(crate):
+    """The source files of a crate, and what they say."""
+    return [(path, outcomes.without("//", path)) for path in sorted(glob.glob(f"crates/{crate}/src/**/*.rt", recursive=True))]
 
 
 def is_private(f):
-    """Whether the function's module is its crate's own."""
-    crate, module = f.shown.split("::")[:2]
-    root = outcomes.without("//", f"crates/{crate}/src/lib.rt")
-    return bool(re.search(rf"^mod {module};", root, re.M)) and not re.search(rf"\bpub use [^;]*\b{module}\b", root)
+    """Whether it is a function of a module that is its crate's own: a method goes where its type goes."""
+    crate, *modules, name = f.shown.split("::")
+    if len(modules) != 1 or modules[0][0].isupper():
+        return False
+    declared = re.search(rf"^mod {modules[0]};", dict(texts(crate))[f"crates/{crate}/src/lib.rt"], re.M)
+    handed_on = rf"\bpub use [^;]*\b{modules[0]}\b|\buse [^;]*\b{modules[0]}\s+as\b"
+    return bool(declared) and not any(re.search(handed_on, text) for _, text in texts(crate))
+
+
+def end_of(text, start):
+    """The place where a struct, an enum or a union ends that begins at `start`."""
+    depth = 0
+    for i in range(start, len(text)):
+        depth += (text[i] in "([") - (text[i] in ")]")
+        if depth == 0 and text[i] in ";{":
+            return i if text[i] == ";" else outcomes.closing(text, i)
+    raise ValueError("a type does not end")
 
 
 def hidden(crate):
     """What hides a refusal in a crate's source."""
-    for path in sorted(glob.glob(f"crates/{crate}/src/**/*.rt", recursive=True)):
-        text = outcomes.without("//", path)
+    for path, text in texts(crate):
         found = re.findall(r"\bRefusal\s+as\s+\w+|\btype\s+\w+[^;]*\bRefusal\b", text)
-        for head in re.finditer(r"\b(?:struct|enum|union)\s+\w+\s*(?:<[^>]*>)?\s*[{(]", text):
-            if re.search(r"\bRefusal\b", text[head.end() : outcomes.closing(text, head.end() - 1)]):
+        for head in re.finditer(r"\b(?:struct|enum|union)\s+\w+", text):
+            if re.search(r"\bRefusal\b", text[head.end() : end_of(text, head.end())]):
                 found.append(head[0])
         for words in found:
             yield f"{path}: a refusal under another name, or in a type: {' '.join(words.split())}"
@@ -76,7 +97,8 @@ def main():
     failures.extend(line for crate in libraries for line in hidden(crate))
     for f in asked:
         said = stated.pop(name_of(f), None)
-        form = GENERIC.get(f.shown, ONE).format(answers=f"{SAID}.Answers", path=f.path, by=BY.get(f.result, "?"))
+        by = BY.get("Refusal" if of_refusal(f) and f.result == "Self" else f.result, "?")
+        form = GENERIC.get(f.shown, ONE).format(answers=f"{SAID}.Answers", path=f.path, by=by)
         if (said is None) != (f.shown in EXCEPTIONS):
             failures.append(f"{f.shown} has {'a' if said else 'no'} statement in {FILE}")
         elif said not in (None, form):

@@ -1,7 +1,7 @@
 -- A library function that refuses does so for a reason of document 01 ("Refusal numbers, in the order of checks"): none refuses by `Other`,
 -- which stands for a number of no reason, and which only who asks `refusal_at` or `refusal_for` for it gets. It is said twice: of each
--- function's own contract as the prover reads it (proofs/ByReason.antt), and of the definitions that the contracts cite, for whoever
--- holds what a function promised (`Reasons`, proofs/Reasons.antt).
+-- function's own contract as the prover reads it (proofs/ByReason.antt), and of the definitions that the contracts of those with a
+-- `Result` cite, for whoever holds what a function promised (`Reasons`, proofs/Reasons.antt).
 use Rattle.std.specs.Prelude.{ℕ, Bool, true, false, List, ◌≡◌, length, Result, Ok, Err}
 use contract.Lifetimes.{Lfts}
 use denote.Triple.Clauses.{Lasts, at_exit}
