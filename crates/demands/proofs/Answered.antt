@@ -3,24 +3,22 @@
 use Prim.Native.Nat.{ℕ, ◌≤◌}
 use native.Mathlib.Omega.{arith}
 use mathlib.Core.Path.{◌≡◌, refl, sym, subst, ◌∙◌}
-use mathlib.Core.Bool.{Bool, true, false, cond}
 use mathlib.Core.Logic.{inl, inr}
 use mathlib.Core.List.{List}
-use lib.Dec.{eqb, ltb, leb}
 use lib.ListN.{length}
 use Rattle.paper.specs.declared.Refusal.{Refusal}
-use Rattle.paper.specs.declared.refusals.Fault.TheVariants.{NoSuchTransition, OutTooShort, Uneven}
-use Rattle.paper.specs.Refusals.{refusal}
+use Rattle.paper.specs.declared.refusals.Fault.{Fault}
 use Rattle.paper.specs.Refusals.{fault_number}
 use Rattle.table.specs.declared.Layout.{Layout}
 use Rattle.strategy.specs.Judge.{judged_of, order_in}
-use Rattle.filling.specs.Filling.{Outcome, refuses, fills, unless_short}
-use Rattle.answers.specs.Requests.{judge_of, judge_answer, key_of, kept_marks, assigned_of, outcome_of, of_transition, order_outcome}
+use Rattle.filling.specs.Filling.{Outcome, refuses, fills}
+use Rattle.answers.specs.Requests.{judge_of, judge_answer, kept_marks, assigned_of, outcome_of, of_transition, order_outcome}
 use Rattle.nocturenc.specs.Packed.{ReadRefusal, AnswerPacked, FillsPacked, packed_answer, packed_filled}
 use Rattle.demands.specs.Allowed.{Request, OrderAnswers, TransitionAnswers, AssignmentsAnswers, refusal_number}
 use Rattle.demands.specs.Demands.{JudgeGives, OrderGives, TransitionGives, IsAnswer, Answered, Demand1}
 use Rattle.demands.proofs.Contracts.{judge-allows, order-allows, transition-allows, assignments-allow, asks_nothing}
 use Rattle.demands.proofs.RefusalNumbers.{AnswerGives, judged-gives}
+use Rattle.demands.proofs.Outcomes.{RefusesBy, judged-by, short-by, transition-by}
 use Rattle.std.specs.Prelude.{Result, Ok, Err}
 use Rattle.strategy.specs.declared.Accepted.{Accepted}
 
@@ -36,13 +34,12 @@ judge-is-answer words r p = go (judged_of words) (judged-gives words) p
     go (Ok a) g p = inl p.read_so.no_refusal
     go (Err x) g p = is-refusal JudgeGives x r p.read_so g.0
 
--- an outcome that fills, or refuses with a number that the request gives
-abbrev OutcomeGives : (ℕ → Type 0) → Outcome ℕ → Type 0
-OutcomeGives Gives (refuses x) = Gives (fault_number x.fault)
-OutcomeGives Gives (fills ws) = Unit {0}
+-- a reason with a number that the request gives
+abbrev Numbered : (ℕ → Type 0) → Fault → Type 0
+Numbered Gives fault = Gives (fault_number fault)
 
 module _ {lent left : List ℕ} {r : ℕ} where
-  fill-is-answer : (Gives : ℕ → Type 0) (o : Outcome ℕ) → OutcomeGives Gives o → FillsPacked o lent left r → IsAnswer Gives r
+  fill-is-answer : (Gives : ℕ → Type 0) (o : Outcome ℕ) → RefusesBy (Numbered Gives) o → FillsPacked o lent left r → IsAnswer Gives r
   fill-is-answer Gives (refuses x) g f = is-refusal Gives x r f.read_so g
   fill-is-answer Gives (fills ws) g f = inl f.read_so.no_refusal
 
@@ -60,50 +57,31 @@ module _ {lent left : List ℕ} {r : ℕ} where
       go (Err x) p f = f.answered ∙ sym p.answered
 
 module _ (words : List ℕ) (Gives : ℕ → Type 0) (more : (n : ℕ) → JudgeGives n → Gives n) where
-  judged-outcome : (next : Layout → ℕ → Outcome ℕ) → ((l : Layout) (count : ℕ) → OutcomeGives Gives (next l count))
-      → OutcomeGives Gives (outcome_of (judged_of words) next)
-  unfolding outcome_of
-  judged-outcome next after = go (judged_of words) (judged-gives words)
-    where
-      go : (j : Result Accepted Refusal) → AnswerGives j → OutcomeGives Gives (outcome_of j next)
-      go (Err x) g = more (fault_number x.fault) g.0
-      go (Ok a) g = after a.layout a.transitions
+  judged : (next : Layout → ℕ → Outcome ℕ) → ((l : Layout) (count : ℕ) → RefusesBy (Numbered Gives) (next l count))
+      → RefusesBy (Numbered Gives) (outcome_of (judged_of words) next)
+  judged = judged-by (Numbered Gives) (λ fault g. more (fault_number fault) g.0) words
 
   -- a request whose outcome is the judgement's refusal, or what follows it
-  answered : (next : ℕ → Layout → ℕ → Outcome ℕ) → ((room : ℕ) (l : Layout) (count : ℕ) → OutcomeGives Gives (next room l count)) → (request : Request)
+  answered : (next : ℕ → Layout → ℕ → Outcome ℕ) → ((room : ℕ) (l : Layout) (count : ℕ) → RefusesBy (Numbered Gives) (next room l count))
+      → (request : Request)
       → ((lent left : List ℕ) (r : ℕ) → request lent left r → FillsPacked (outcome_of (judged_of words) (next (length lent))) lent left r)
       → Answered words Gives request
   answered next after request allows = record {
-    is_answer = λ lent left r q. fill-is-answer Gives _ (judged-outcome (next (length lent)) (after (length lent))) (allows lent left r q);
+    is_answer = λ lent left r q. fill-is-answer Gives _ (judged (next (length lent)) (after (length lent))) (allows lent left r q);
     refusal_writes_nothing = λ lent left r q. nothing_written _ (allows lent left r q);
     judged_first = λ j p h lent left r q. refused-first words j (judge-allows words p) h (next (length lent)) (allows lent left r q);
   }
 
-short-gives : (Gives : ℕ → Type 0) → Gives 16 → (room : ℕ) (ws : List ℕ) → OutcomeGives Gives (unless_short room ws)
-short-gives Gives g room ws = go (ltb room (length ws))
-  where
-    go : (b : Bool) → OutcomeGives Gives (cond b (refuses (refusal OutTooShort (length ws))) (fills ws))
-    go true = g
-    go false = tt
-
 transition-gives : (what : List ℕ → Layout → ℕ → List ℕ) (words : List ℕ) (k room : ℕ) (l : Layout) (count : ℕ)
-    → OutcomeGives TransitionGives (of_transition what words k room l count)
-unfolding of_transition
-transition-gives what words k room l count = go (leb count k) (eqb (length (key_of words l k)) l.variables)
-  where
-    go : (a w : Bool)
-        → OutcomeGives TransitionGives (cond a (refuses (refusal NoSuchTransition count))
-        (cond w (unless_short room (what words l k)) (refuses (refusal Uneven k))))
-    go true w = inr (inl refl)
-    go false true = short-gives TransitionGives (inr (inr (inr refl))) room (what words l k)
-    go false false = inr (inr (inl refl))
+    → RefusesBy (Numbered TransitionGives) (of_transition what words k room l count)
+transition-gives = transition-by (Numbered TransitionGives) (inr (inr (inr refl))) (inr (inl refl)) (inr (inr (inl refl)))
 
 pub demand-1 : Demand1
 demand-1 = record {
   asks_nothing = asks_nothing;
   judge = λ words r p. judge-is-answer words r (judge-allows words p);
   order = λ words. answered words OrderGives (λ n g. inl g) (order_outcome words)
-      (λ room l count. short-gives OrderGives (inr refl) room (order_in words l))
+      (λ room l count. short-by (Numbered OrderGives) (inr refl) room (order_in words l))
       (OrderAnswers words) (λ lent left r q. order-allows words q);
   transition = λ words k. answered words TransitionGives (λ n g. inl g) (of_transition kept_marks words k) (transition-gives kept_marks words k)
       (TransitionAnswers words k) (λ lent left r q. transition-allows words k q);

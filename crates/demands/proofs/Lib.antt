@@ -1,5 +1,6 @@
 pub mod Contracts
 pub mod RefusalNumbers
+pub mod Outcomes
 pub mod Reasons
 pub mod ByReason
 pub mod Answered

@@ -3,7 +3,6 @@ use Prim.Native.Nat.{ℕ, ◌/◌}
 use mathlib.Core.Path.{◌≡◌, refl, sym, subst}
 use mathlib.Core.Bool.{Bool, true, false, cond, false≢true}
 use mathlib.Core.List.{List}
-use lib.Dec.{ltb, leb, eqb}
 use lib.ListN.{length}
 use Rattle.std.specs.Prelude.{Result, Ok, Err}
 use Rattle.paper.specs.declared.Refusal.{Refusal}
@@ -11,7 +10,7 @@ use Rattle.paper.specs.declared.refusals.Fault.{Fault}
 use Rattle.paper.specs.declared.refusals.Fault.TheVariants.{Absent, CountOutOfRange, NameNotAbove, ReadBeyond, RowBroken, ReadsLeft, TooDeep, EntryUnfit}
 use Rattle.paper.specs.declared.refusals.Fault.TheVariants.{WordsFollow, NoCandidate, VariableMissed, VariableTwice, NoOrder, TooMany, NoSuchTransition, Uneven}
 use Rattle.paper.specs.declared.refusals.Fault.TheVariants.{OutTooShort, OddBytes, Other}
-use Rattle.paper.specs.Refusals.{refusal, fault_number, fault_of}
+use Rattle.paper.specs.Refusals.{fault_number, fault_of}
 use Rattle.paper.specs.Limits.{most_reads, most_rows, most_variables}
 use Rattle.sections.specs.declared.Cursor.{Cursor}
 use Rattle.sections.specs.Sections.{start, open_at}
@@ -24,10 +23,11 @@ use Rattle.strategy.specs.declared.Accepted.{Accepted}
 use Rattle.strategy.specs.Verdict.{refused_at}
 use Rattle.strategy.specs.Judge.{judged_of, order_in}
 use Rattle.input.specs.Bytes.{are_odd, judged_bytes, words_of}
-use Rattle.answers.specs.Requests.{judge_of, judge_answer, key_of, kept_marks, assigned_of, outcome_of, of_transition, order_outcome}
+use Rattle.answers.specs.Requests.{judge_of, judge_answer, kept_marks, assigned_of, outcome_of, of_transition, order_outcome}
 use Rattle.demands.specs.Reasons.{is_reason, ByReason, Reasons}
 use Rattle.demands.proofs.RefusalNumbers.{StepGives, AnswerGives, gives_then, open_gives, variables-give, reads-give, rows-give, strategy-gives, end-gives}
 use Rattle.demands.proofs.RefusalNumbers.{sections-give, judged-gives}
+use Rattle.demands.proofs.Outcomes.{RefusesBy, judged-by, short-by, transition-by}
 
 step : (s : Result Cursor Refusal) → StepGives s → ByReason s
 step (Ok c) g = tt
@@ -71,46 +71,26 @@ judge words = go (judged_of words) (judgement words)
     go (Ok a) g = tt
     go (Err x) g = g
 
--- what a request that fills does, for a reason where it refuses
-module _ {T : Type 0} where
-  abbrev DoneByReason : Outcome T → Type 0
-  DoneByReason (refuses x) = is_reason x.fault ≡ true
-  DoneByReason (fills ws) = Unit {0}
+abbrev IsReason : Fault → Type 0
+IsReason fault = is_reason fault ≡ true
 
-  short : (room : ℕ) (ws : List T) → DoneByReason (unless_short room ws)
-  short room ws = go (ltb room (length ws))
-    where
-      go : (b : Bool) → DoneByReason (cond b (refuses (refusal OutTooShort (length ws))) (fills ws))
-      go true = refl
-      go false = tt
-
-  filled : (o : Outcome T) → DoneByReason o → {lent left : List T} {r : Result Length Refusal} → Fills o lent left r → ByReason r
-  filled o g f = subst ByReason (sym f.answered) (go o g)
-    where
-      go : (o : Outcome T) → DoneByReason o → ByReason (filled_of o)
-      go (refuses x) g = g
-      go (fills ws) g = tt
-
--- the judgement, and then what follows it
-judged : (words : List ℕ) (next : Layout → ℕ → Outcome ℕ) → ((l : Layout) (count : ℕ) → DoneByReason (next l count))
-    → DoneByReason (outcome_of (judged_of words) next)
-unfolding outcome_of
-judged words next after = go (judged_of words) (judgement words)
+filled : {T : Type 0} (o : Outcome T) → RefusesBy IsReason o → {lent left : List T} {r : Result Length Refusal} → Fills o lent left r → ByReason r
+filled o g f = subst ByReason (sym f.answered) (go o g)
   where
-    go : (j : Result Accepted Refusal) → ByReason j → DoneByReason (outcome_of j next)
-    go (Ok a) g = after a.layout a.transitions
-    go (Err x) g = g
+    go : {T : Type 0} (o : Outcome T) → RefusesBy IsReason o → ByReason (filled_of o)
+    go (refuses x) g = g
+    go (fills ws) g = tt
+
+judged : (words : List ℕ) (next : Layout → ℕ → Outcome ℕ) → ((l : Layout) (count : ℕ) → RefusesBy IsReason (next l count))
+    → RefusesBy IsReason (outcome_of (judged_of words) next)
+judged = judged-by IsReason (λ fault g. g.1)
+
+short : {T : Type 0} (room : ℕ) (ws : List T) → RefusesBy IsReason (unless_short room ws)
+short = short-by IsReason refl
 
 numbered : (what : List ℕ → Layout → ℕ → List ℕ) (words : List ℕ) (k room : ℕ) (l : Layout) (count : ℕ)
-    → DoneByReason (of_transition what words k room l count)
-unfolding of_transition
-numbered what words k room l count = go (leb count k) (eqb (length (key_of words l k)) l.variables)
-  where
-    go : (a w : Bool)
-        → DoneByReason (cond a (refuses (refusal NoSuchTransition count)) (cond w (unless_short room (what words l k)) (refuses (refusal Uneven k))))
-    go true w = refl
-    go false true = short room (what words l k)
-    go false false = refl
+    → RefusesBy IsReason (of_transition what words k room l count)
+numbered = transition-by IsReason refl refl refl
 
 told : (fault : Fault) → is_reason fault ≡ true → fault_of (fault_number fault) ≡ fault
 told (Other number) e = absurd (false≢true e)
